@@ -85,6 +85,7 @@ impl CallRecord {
     pub fn counted_all(&mut self, files: &[MadeTable]) -> Result<(), FolderFault>
         ensures failures { self.new.failures ≡ failures_after self.old.failures result }
         ensures trail { self.new.trail ≡ self.old.trail }
+        ensures readings { self.new.readings ≡ self.old.readings }
     {
         match first_failed(files) {
             Some(place) => {
@@ -98,11 +99,15 @@ impl CallRecord {
     /// Adds what was answered of a whole file.
     pub fn has_read(&mut self, name: &str, answer: &Result<Option<Vec<u8>>, FolderFault>)
         ensures readings { self.new.readings
-            ≡ readings_after self.old.readings name.now answer.now }
+            ≡ readings_after self.old.readings self.old.trail name.now answer.now }
         ensures failures { self.new.failures ≡ self.old.failures }
         ensures trail { self.new.trail ≡ self.old.trail }
     {
-        self.readings = self.readings.then(&FileRead { name, answer });
+        self.readings = self.readings.then(&FileRead {
+            trail: &self.trail,
+            name,
+            answer,
+        });
     }
 
     /// Adds a call that writes and hands on what it answered.
@@ -115,6 +120,7 @@ impl CallRecord {
         ensures trail { self.new.trail
             ≡ self.old.trail ++ step_of (any_call_in call.entry) answer ∷ [] }
         ensures failures { self.new.failures ≡ self.old.failures }
+        ensures readings { self.new.readings ≡ self.old.readings }
     {
         let is_done = answer.is_ok();
         self.trail = self.trail.then(&Attempt { call, is_done });

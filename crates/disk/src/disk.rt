@@ -243,6 +243,7 @@ impl<'r, R: SystemFiles + AllocGlobal> Disk<'r, R> {
     ) -> Result<(), FolderFault>
         ensures failures { self.new.failures ≡ failures_after self.old.failures result }
         ensures trail { self.new.trail ≡ self.old.trail }
+        ensures readings { self.new.readings ≡ self.old.readings }
     {
         let Ok(mut files) = files_of(self.rt.alloc(), self.path, tables) else {
             return Err(FolderFault::Memory);
@@ -261,6 +262,7 @@ impl<'r, R: SystemFiles + AllocGlobal> Disk<'r, R> {
     fn counted_made(&mut self, made: Option<Vec<MadeTable>>) -> Result<(), FolderFault>
         ensures failures { self.new.failures ≡ failures_after self.old.failures result }
         ensures trail { self.new.trail ≡ self.old.trail }
+        ensures readings { self.new.readings ≡ self.old.readings }
     {
         let Some(files) = made else {
             return Err(FolderFault::Memory);
@@ -274,6 +276,7 @@ impl<'r, R: SystemFiles + AllocGlobal> Disk<'r, R> {
         ensures trail { self.new.trail ≡ self.old.trail
             ++ step_of (call_in call.entry) result ∷ [] }
         ensures failures { self.new.failures ≡ failures_after self.old.failures result }
+        ensures readings { self.new.readings ≡ self.old.readings }
     {
         let place = Place {
             folder: self.path,

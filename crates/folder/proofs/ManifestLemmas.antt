@@ -2,7 +2,7 @@
 use Rattle.std.proofs.Common.{◌≡◌, ℕ, List, [], ◌∷◌, ◌++◌, Result, Ok, Err, IsErrAnd, refl, sym, subst}
 use Rattle.std.specs.List.{AllZip}
 use Rattle.ikey.proofs.Refusals.{unless_from}
-use Rattle.ikey.specs.Answers.{FailsOrMemory, EqualOrMemory, UnlessMemory, HoldsOrMemory}
+use Rattle.ikey.specs.Answers.{FailsOrMemory, UnlessMemory, HoldsOrMemory}
 use Rattle.ikey.specs.fault.Fault.{Fault}
 use Rattle.logrec.specs.LogReader.{records_of}
 use Rattle.folder.specs.Manifest.{IsManifestAnswer}
@@ -11,11 +11,6 @@ use Rattle.folder.specs.Manifest.{IsManifestAnswer}
 pub handed_on : {X Y : Type 0} (view : X → Y) (r : Result X Fault) (e : Fault) (IsAnswer : Result Y Fault → Type 0) → IsErrAnd r (λ f. f ≡ e) → UnlessMemory e (IsAnswer (Err e)) → HoldsOrMemory view r IsAnswer
 handed_on view (Ok x) e IsAnswer h u = absurd h
 handed_on view (Err f) e IsAnswer h u = subst (λ (g : Fault). UnlessMemory g (IsAnswer (Err g))) (sym h) u
-
--- what a call answers that gives what a definition answers
-pub given_answer : {X Y : Type 0} (view : X → Y) (r : Result X Fault) (d : Result Y Fault) (IsAnswer : Result Y Fault → Type 0) → ((a : Result Y Fault) → a ≡ d → IsAnswer a) → EqualOrMemory view r d → HoldsOrMemory view r IsAnswer
-given_answer view (Ok x) d IsAnswer f given = f (Ok (view x)) (sym given)
-given_answer view (Err e) d IsAnswer f given = unless_from e (d ≡ Err e) (IsAnswer (Err e)) (λ same. f (Err e) (sym same)) given
 
 -- one pair more
 pub zip_push : {A B : Type 0} (R : A → B → Type 0) (xs : List A) (ys : List B) (x : A) (y : B) → AllZip R xs ys → R x y → AllZip R (xs ++ x ∷ []) (ys ++ y ∷ [])

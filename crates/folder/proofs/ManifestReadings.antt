@@ -7,7 +7,7 @@ use Rattle.ikey.proofs.Refusals.{unless, unless_from}
 use Rattle.ikey.specs.Answers.{fault, ◌>>=◌, FailsOrMemory, EqualOrMemory, UnlessMemory, HoldsOrMemory, Follows}
 use Rattle.ikey.specs.fault.Fault.{Fault}
 use Rattle.ikey.specs.fault.FaultName.TheVariants as name
-use Rattle.logrec.specs.LogReader.{records_of, with_first}
+use Rattle.logrec.specs.LogReader.{with_first}
 use Rattle.edit.specs.Edit.{Edit, IsEdit, IsEditRefused}
 use Rattle.edit.specs.Version.{State, applied_by, empty_state}
 use Rattle.folder.specs.Manifest.{AreEdits, IsEditsAnswer, IsManifestAnswer, first_name, is_complete, order_name, order_named, order_of, version_after_edits, version_from}
@@ -33,9 +33,6 @@ one_more : (front : Records) (r : List ℕ) (ahead : Answer) → with_front fron
 one_more front r (Ok rs) = ap (λ (x : Records). Ok x) (sym (append_assoc front (r ∷ []) rs))
 one_more front r (Err e) = refl
 
-abbrev the_err : {A : Type 0} → Fault → Result A Fault
-the_err e = Err e
-
 abbrev pub the_ok : {A : Type 0} → A → Result A Fault
 the_ok x = Ok x
 
@@ -44,26 +41,14 @@ pub handed_equal : {X Y : Type 0} (view : X → Y) (r : Result X Fault) (e : Fau
 handed_equal view (Ok x) e d h u = absurd h
 handed_equal view (Err f) e d h u = subst (λ (g : Fault). FailsOrMemory g d) (sym h) u
 
-fault_is : {A : Type 0} (d e : Fault) → (the_err {A = A} d) ≡ Err e → d ≡ e
-fault_is d e h = cc
-
 -- ---- whether it is a log
 
 pub record Leads (total ahead : Answer) : Type 0 where
   pub front : Records
   pub is : with_front front ahead ≡ total
 
-pub leads_begin : (total ahead : Answer) → ahead ≡ total → Leads total ahead
-leads_begin total ahead same = record { front = []; is = again ahead ∙ same }
-
 pub leads_on : (total old new : Answer) (r : List ℕ) → old ≡ with_first r new → Leads total old → Leads total new
 leads_on total old new r next l = record { front = l.front ++ r ∷ []; is = sym (one_more l.front r new) ∙ sym (ap (with_front l.front) next) ∙ l.is }
-
-pub leads_end : (bytes : List ℕ) (ahead : Answer) → ahead ≡ Ok [] → Leads (records_of bytes) ahead → IsLog bytes
-leads_end bytes ahead none l = record { records = l.front ++ []; is = sym l.is ∙ ap (with_front l.front) none }
-
-pub leads_refused : (total ahead : Answer) (e : Fault) → Leads total ahead → FailsOrMemory e ahead → FailsOrMemory e total
-leads_refused total ahead e l h = unless_from e (ahead ≡ Err e) (total ≡ Err e) (λ same. sym l.is ∙ ap (with_front l.front) same) h
 
 -- ---- the order
 
@@ -169,12 +154,6 @@ pub record VersionSoFar (text : List ℕ) (es : List Edit) (ahead : Answer) (v :
   pub read : AreEdits records edits
   pub same : version_after_edits text v edits ≡ version_after_edits text empty_state es
 
-pub version_begin : (text : List ℕ) (rs : Records) (es : List Edit) (ahead : Answer) (v : State) → ahead ≡ Ok rs → AreEdits rs es → v ≡ empty_state → VersionSoFar text es ahead v
-version_begin text rs es ahead v is read none = record { records = rs; edits = es; is = is; read = read; same = ap (λ (w : State). version_after_edits text w es) none }
-
-pub version_unread : (text : List ℕ) (es : List Edit) (ahead : Answer) (v : State) (r : Result State Fault) (e : Fault) → VersionSoFar text es ahead v → FailsOrMemory e ahead → FailsOrMemory e r
-version_unread text es ahead v r e s h = unless_from e (ahead ≡ Err e) (r ≡ Err e) (λ is. let p = sym s.is ∙ is in absurd cc) h
-
 -- the next record and its edit
 pub record NextEdit (text : List ℕ) (es : List Edit) (r : List ℕ) (new : Answer) (v : State) : Type 0 where
   pub edit : Edit
@@ -218,22 +197,7 @@ version_unapplied text es r new v e f n is h =
     unless_from f (applied_by text v e ≡ Err f) (version_after_edits text empty_state es ≡ Err f)
     (λ failed. sym n.same ∙ ap (λ (x : Result State Fault). x >>= λ u. version_after_edits text u n.edits) (ap (applied_by text v) one ∙ failed)) h
 
-pub version_end : (text : List ℕ) (es : List Edit) (ahead : Answer) (v : State) → ahead ≡ Ok [] → VersionSoFar text es ahead v → version_after_edits text empty_state es ≡ Ok v
-version_end text es ahead v none s = by s.edits (subst (λ (x : Records). AreEdits x s.edits) (ok_is s.records [] (sym s.is ∙ none)) s.read) s.same
-  where
-    by : (edits : List Edit) → AreEdits [] edits → version_after_edits text v edits ≡ version_after_edits text empty_state es → version_after_edits text empty_state es ≡ Ok v
-    by [] read same = sym same
-    by (e ∷ edits) read same = absurd read
-
 -- ---- all of it
-
--- an answer of the order is that of all, if it is a refusal
-pub no_order : (number : ℕ) (bytes : List ℕ) (e : Fault) (log : IsLog bytes) → UnlessMemory e (IsOrderAnswer log.records (Err e)) → UnlessMemory e (IsManifestAnswer number bytes (Err e))
-no_order number bytes e log h = unless_from e (IsOrderAnswer log.records (Err e)) (IsManifestAnswer number bytes (Err e)) (λ a. by a.0 a.1.0 a.1.1) h
-  where
-    by : (first : Result (List Edit) Fault) → IsEditsAnswer log.records first → Follows (λ edits answer. answer ≡ order_of edits) first (Err e) → IsManifestAnswer number bytes (Err e)
-    by (Err d) read is = (Ok log.records, (sym log.is, (Err d, (read, ap (λ (x : Fault). Err x) (fault_is e d is)))))
-    by (Ok edits) read is = (Ok log.records, (sym log.is, (Ok edits, (read, sym (ap (λ (o : Result Order Fault). o >>= λ order. (version_after_edits (order_name order) empty_state edits >>= λ v. cond (is_complete number v) (Ok (order, v)) (Err (fault name.Apply)))) (sym is))))))
 
 abbrev version_of : ℕ → Order → List Edit → Result (Order × State) Fault
 version_of number order edits = version_after_edits (order_name order) empty_state edits >>= λ v. cond (is_complete number v) (Ok (order, v)) (Err (fault name.Apply))

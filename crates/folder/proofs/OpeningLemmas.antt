@@ -4,22 +4,31 @@ use Rattle.ikey.proofs.Refusals.{unless_from}
 use Rattle.ikey.specs.Answers.{UnlessMemory, HoldsOrMemory}
 use Rattle.ikey.specs.fault.Fault.{Fault}
 use Rattle.edit.specs.Version.{State}
+use Rattle.folder.specs.Calls.{Step}
 use Rattle.folder.specs.Folder.{DeviceFailed, TellsSame}
 use Rattle.folder.specs.Manifest.{IsManifestAnswer}
 use Rattle.folder.specs.Names.{IsNumberAnswer, current_text, manifest_name}
 use Rattle.folder.specs.OpenAnswer.{FolderAnswers, IsFileReading, IsOpened, IsStopped, IsVersionRead}
 use Rattle.folder.specs.Readings.{Reading}
+use Rattle.folder.specs.declared.folder.Folder.{Ghosts}
 use Rattle.folder.specs.declared.order.Order.{Order}
 
 -- CURRENT was read, and then the manifest that it names
-pub version_read : (before middle after : List Reading) (order : Order) (v : State) (number : ℕ) (current name bytes : List ℕ) → middle ≡ before ++ (codes "CURRENT", Some current) ∷ [] → current ≡ current_text number
-    → after ≡ middle ++ (name, Some bytes) ∷ [] → name ≡ manifest_name number → IsManifestAnswer number bytes (Ok (order, v)) → IsVersionRead before after order v number
-version_read before middle after order v number current name bytes one is two named gives = record {
-  bytes = bytes;
-  read = two ∙ (ap (λ (l : List Reading). l ++ (name, Some bytes) ∷ []) one ∙ (append_assoc before ((codes "CURRENT", Some current) ∷ []) ((name, Some bytes) ∷ [])
-      ∙ (ap (λ (c : List ℕ). before ++ (codes "CURRENT", Some c) ∷ ((name, Some bytes) ∷ [])) is ∙ ap (λ (n : List ℕ). before ++ (codes "CURRENT", Some (current_text number)) ∷ ((n, Some bytes) ∷ [])) named)));
-  gives = gives;
-}
+pub version_read : {F : Type 0} {g : Ghosts F} (old middle new : F) (order : Order) (v : State) (number : ℕ) (current name bytes : List ℕ)
+    → g.readings middle ≡ g.readings old ++ (g.calls old, codes "CURRENT", Some current) ∷ [] → current ≡ current_text number → g.calls middle ≡ g.calls old
+    → g.readings new ≡ g.readings middle ++ (g.calls middle, name, Some bytes) ∷ [] → name ≡ manifest_name number → IsManifestAnswer number bytes (Ok (order, v)) → IsVersionRead g old new order v number
+version_read {g = g} old middle new order v number current name bytes one is same two named gives =
+    let made = g.calls old in
+    let current_read : List ℕ → Reading = λ c. (made, codes "CURRENT", Some c) in
+    let manifest_read : List Step → List ℕ → Reading = λ s n. (s, n, Some bytes) in
+    record {
+      bytes = bytes;
+      read = two ∙ (ap (λ (l : List Reading). l ++ manifest_read (g.calls middle) name ∷ []) one ∙ (append_assoc (g.readings old) (current_read current ∷ []) (manifest_read (g.calls middle) name ∷ [])
+          ∙ (ap (λ (c : List ℕ). g.readings old ++ current_read c ∷ (manifest_read (g.calls middle) name ∷ [])) is
+          ∙ (ap (λ (s : List Step). g.readings old ++ current_read (current_text number) ∷ (manifest_read s name ∷ [])) same
+          ∙ ap (λ (n : List ℕ). g.readings old ++ current_read (current_text number) ∷ (manifest_read made n ∷ [])) named))));
+      gives = gives;
+    }
 
 -- a failure after a time is one after an earlier time
 pub failed_since : (before middle now : ℕ) → before ≤ middle → middle ≤ now → DeviceFailed middle now → DeviceFailed before now

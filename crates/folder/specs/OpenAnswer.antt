@@ -11,9 +11,9 @@ use Rattle.edit.specs.Version.{State}
 use Rattle.folder.specs.Folder.{DeviceFailed}
 use Rattle.folder.specs.Manifest.{IsManifestAnswer}
 use Rattle.folder.specs.Names.{IsNumberAnswer, current_text, manifest_name}
+use Rattle.folder.specs.declared.folder.Folder.{Ghosts}
 use Rattle.folder.specs.declared.order.Order.{Order}
 use Rattle.folder.specs.Calls.{Files, Tells, ToldFiles}
-use Rattle.folder.specs.Readings.{Reading}
 
 -- the device failed during the call, and Device is the answer
 abbrev pub IsStopped : ℕ → ℕ → Fault → Type 0
@@ -49,11 +49,12 @@ IsOpened tells = IsThen (IsFileReading tells (codes "CURRENT")) (λ current.
 
 -- A version was opened: CURRENT was read, then the manifest of this number, which CURRENT names,
 -- and no other file. The bytes of that manifest give this order and version.
-pub record IsVersionRead (before after : List Reading) (order : Order) (v : State) (manifest : ℕ)
-    : Type 0 where
+pub record IsVersionRead {F : Type 0} (g : Ghosts F) (old new : F) (order : Order) (v : State)
+    (manifest : ℕ) : Type 0 where
   pub bytes : List ℕ
-  pub read : after ≡ before ++ (codes "CURRENT", Some (current_text manifest))
-      ∷ ((manifest_name manifest, Some bytes) ∷ [])
+  pub read : g.readings new ≡ g.readings old
+      ++ (g.calls old, codes "CURRENT", Some (current_text manifest))
+      ∷ ((g.calls old, manifest_name manifest, Some bytes) ∷ [])
   pub gives : IsManifestAnswer manifest bytes (Ok (order, v))
 
 -- the refusals that come of what a folder holds; Device and Memory are not among them

@@ -49,8 +49,8 @@ pub fn open<F: Folder>(alloc: Global, folder: &mut F) -> Result<Opened, Fault>
         (λ r. F.tells folder.old (codes "CURRENT") (Some (current_text r.manifest))) }
     // Of any folder, also one that tells nothing: CURRENT was read, then that manifest, and no
     // other file, and the version is what these bytes say.
-    ensures read { IfOk result (λ r. IsVersionRead (F.readings folder.old) (F.readings folder.new)
-        r.order r.version r.manifest) }
+    ensures read { IfOk result
+        (λ r. IsVersionRead F.Folder folder.old folder.new r.order r.version r.manifest) }
     ensures device { ReportsDevice F.Folder folder.old folder.new result }
     ensures reads { OnlyReads F.Folder folder.old folder.new }
 {
@@ -71,7 +71,7 @@ pub(crate) fn bytes_under<F: Folder>(folder: &mut F, name: &str) -> Result<Vec<u
     ensures answer { FolderAnswers (λ v. v.items) (F.failed folder.old) (F.failed folder.new) result
         (IsFileReading (F.tells folder.old) name.now) }
     ensures read { IfOk result (λ v. F.readings folder.new
-        ≡ F.readings folder.old ++ (name.now, Some v.items) ∷ []) }
+        ≡ F.readings folder.old ++ (F.calls folder.old, name.now, Some v.items) ∷ []) }
     ensures device { ReportsDevice F.Folder folder.old folder.new result }
     ensures reads { OnlyReads F.Folder folder.old folder.new }
 {

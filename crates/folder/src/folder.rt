@@ -72,8 +72,8 @@ pub trait Folder {
     /// answer does.
     ghost failed: { Self → ℕ };
 
-    /// The files that [`read`](Folder::read) was asked for, in order, and what it answered of each,
-    /// be it true or not. A call that failed is not among them.
+    /// The files that [`read`](Folder::read) was asked for, in order, each with the `calls` before
+    /// it and what it answered, be it true or not. A call that failed is not among them.
     ghost readings: { Self → List Reading };
 
     /// The bytes of a file. None if no file has this name.
@@ -82,7 +82,8 @@ pub trait Folder {
             (λ held. tells self.old name.now (option_map (λ bytes. bytes.items) held)) }
         ensures same { TellsSame (tells self.old) (tells self.new) }
         ensures calls { calls self.new ≡ calls self.old }
-        ensures readings { readings self.new ≡ readings_after (readings self.old) name.now result }
+        ensures readings { readings self.new
+            ≡ readings_after (readings self.old) (calls self.old) name.now result }
         ensures failures { failed self.new ≡ failures_after (failed self.old) result };
 
     /// The `len` bytes of a file from `offset` on, or as many as it has there. None if no file has
@@ -97,6 +98,7 @@ pub trait Folder {
             (option_map (λ bytes. bytes.items) part)) }
         ensures same { TellsSame (tells self.old) (tells self.new) }
         ensures calls { calls self.new ≡ calls self.old }
+        ensures readings { readings self.new ≡ readings self.old }
         ensures failures { failed self.new ≡ failures_after (failed self.old) result };
 
     /// Makes a file of these bytes. It replaces a file of that name.
@@ -105,6 +107,7 @@ pub trait Folder {
             ++ step_of (Created name.now bytes.now) result ∷ [] }
         ensures change { TellsAfter (step_of (Created name.now bytes.now) result) (tells self.old)
             (tells self.new) }
+        ensures readings { readings self.new ≡ readings self.old }
         ensures failures { failed self.new ≡ failures_after (failed self.old) result };
 
     /// Makes each of these tables a file under the name of its number, and writes it through to the
@@ -123,6 +126,7 @@ pub trait Folder {
             ++ step_of (Written (table_files tables.now)) result ∷ [] }
         ensures change { TellsAfter (step_of (Written (table_files tables.now)) result)
             (tells self.old) (tells self.new) }
+        ensures readings { readings self.new ≡ readings self.old }
         ensures failures { failed self.new ≡ failures_after (failed self.old) result };
 
     /// Writes a file's bytes through to the device. If no file has this name, nothing is written,
@@ -131,6 +135,7 @@ pub trait Folder {
         ensures calls { calls self.new ≡ calls self.old ++ step_of (Synced name.now) result ∷ [] }
         ensures change { TellsAfter (step_of (Synced name.now) result) (tells self.old)
             (tells self.new) }
+        ensures readings { readings self.new ≡ readings self.old }
         ensures failures { failed self.new ≡ failures_after (failed self.old) result };
 
     /// Renames a file. It replaces a file that has the name `to`.
@@ -139,6 +144,7 @@ pub trait Folder {
             ++ step_of (Renamed from.now to.now) result ∷ [] }
         ensures change { TellsAfter (step_of (Renamed from.now to.now) result) (tells self.old)
             (tells self.new) }
+        ensures readings { readings self.new ≡ readings self.old }
         ensures failures { failed self.new ≡ failures_after (failed self.old) result };
 
     /// Removes a file. If no file has this name, nothing is removed, and that is no failure.
@@ -146,6 +152,7 @@ pub trait Folder {
         ensures calls { calls self.new ≡ calls self.old ++ step_of (Removed name.now) result ∷ [] }
         ensures change { TellsAfter (step_of (Removed name.now) result) (tells self.old)
             (tells self.new) }
+        ensures readings { readings self.new ≡ readings self.old }
         ensures failures { failed self.new ≡ failures_after (failed self.old) result };
 
     /// Writes the folder's names through to the device.
@@ -153,6 +160,7 @@ pub trait Folder {
         ensures calls { calls self.new ≡ calls self.old ++ step_of FolderSynced result ∷ [] }
         ensures change { TellsAfter (step_of FolderSynced result) (tells self.old)
             (tells self.new) }
+        ensures readings { readings self.new ≡ readings self.old }
         ensures failures { failed self.new ≡ failures_after (failed self.old) result };
 
     /// How often the device has failed. The count stays at 2^64 - 1.

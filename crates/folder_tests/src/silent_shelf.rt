@@ -66,6 +66,7 @@ impl<'a> Folder for SilentShelf<'a> {
         let whole = self.shelf.read(name);
         let answer = shortened(whole, name == self.short);
         self.readings = self.readings.then(&FileRead {
+            trail: self.shelf.trail(),
             name,
             answer: &answer,
         });

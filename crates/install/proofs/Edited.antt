@@ -3,7 +3,7 @@ use Rattle.std.proofs.Common.{◌≡◌, ◌≢◌, ◌⊎◌, ◌<◌, ◌^◌,
 use Rattle.std.specs.List.{list_all}
 use borrow.Author.Tests.{lt-ltb, ltb-true}
 use Rattle.std.specs.Option.{option_map, option_map_or, option_or, ok_or}
-use Rattle.install.proofs.Numbers.{after_edit, in_files, in_version, numbers_in, small_added}
+use Rattle.install.proofs.Numbers.{after_edit, in_files, in_version, numbers_in, small_added, is_itself as is_number}
 use Rattle.install.proofs.Options.{made, option_parts}
 use Rattle.std.specs.Str.{bytes_eq}
 use Rattle.std.specs.declared.cmp.Ordering.{Ordering}
@@ -28,23 +28,18 @@ use Rattle.folder.proofs.WrittenLemmas.{AllOther}
 use Rattle.install.specs.Install.{IsEditedBy, manifest_bytes, numbers_of}
 use Rattle.install.proofs.Moments.{Apart}
 use Rattle.install.proofs.Outputs.{AreApart, filed}
-use Rattle.install.proofs.Switch.{Setting, manifest_no_temporary, table_no_current, table_no_temporary, temporary_no_current, manifest_no_current}
+use Rattle.install.proofs.Switch.{Setting, manifest_no_temporary, table_no_current, temporary_no_current, manifest_no_current}
+use Rattle.std.proofs.lemmas.Bool.{and_parts as both_true}
+use Rattle.install.proofs.Names.{table_no_temporary}
 
 -- no two numbers are one
 abbrev pub AreDistinct : List ℕ → Type 0
 AreDistinct [] = Unit {0}
 AreDistinct (n ∷ numbers) = (IsOneOf numbers n → ⊥) × AreDistinct numbers
 
-both_true : (a b : Bool) → (a && b) ≡ true → (a ≡ true) × (b ≡ true)
-both_true true b h = (refl, h)
-both_true false b h = absurd (cc h)
-
 not_true : (a : Bool) → not a ≡ true → a ≡ false
 not_true true h = absurd (cc h)
 not_true false h = refl
-
-is_number : (n : ℕ) → nat_eq n n ≡ true
-is_number n = grind arith
 
 has_it : (files : List NewFile) (n : ℕ) → IsOneOf (numbers_in files) n → has_number files n ≡ true
 has_it [] n m = absurd m

@@ -1,5 +1,5 @@
 -- The calls of an installation, of which CURRENT is read again in the middle.
-use Rattle.std.proofs.Common.{◌≡◌, ◌≢◌, ◌⊎◌, ◌≤◌, ℕ, List, ◌++◌, append_assoc, codes, map, Some, Result, Ok, Err, IsErrAnd, IfErr, OnOk, [], ◌∷◌, refl, sym, ap, subst, ◌∙◌, inl, inr, arith}
+use Rattle.std.proofs.Common.{◌≡◌, ◌≢◌, ◌⊎◌, ◌≤◌, ℕ, List, ◌++◌, append_assoc, codes, map, Some, Result, Ok, Err, IsErrAnd, IfErr, [], ◌∷◌, refl, sym, ap, ap₂, subst, ◌∙◌, inl, inr, arith}
 use Rattle.std.proofs.lemmas.List.{map-append}
 use Rattle.edit.proofs.Refusals.{unless_from}
 use Rattle.edit.specs.Answers.{UnlessMemory, fault}
@@ -9,6 +9,7 @@ use Rattle.folder.specs.Calls.{Call, Done, Files, Step, Tells}
 use Rattle.folder.specs.CallSequence.{MakesCalls}
 use Rattle.folder.specs.Names.{current_text}
 use Rattle.folder.specs.OpenAnswer.{IsStopped, StopsAtDevice}
+use Rattle.folder.specs.Readings.{Reading}
 use Rattle.folder.specs.Reports.{OnlyReads, ReportsDevice}
 use Rattle.folder.specs.declared.folder.Folder.{Ghosts}
 use Rattle.folder.proofs.OpeningLemmas.{failed_since}
@@ -16,9 +17,9 @@ use Rattle.folder.proofs.ReportLemmas.{reports_handed, reports_then, stopped_dev
 use Rattle.folder.proofs.RunLemmas.{runs_none, runs_then}
 use Rattle.install.specs.CurrentAnswer.{IsCurrentAnswer}
 use Rattle.install.specs.Install.{IsStoppedOrChanged}
-use Rattle.install.specs.InstallCalls.{IsInstallCalls, IsReadAgain}
-use Rattle.install.proofs.Current.{AllLeaveCurrent, TellsCurrent, runs_read, same_refused, told_current}
-use Rattle.install.proofs.Parts.{hands_behind, hands_stopped, runs_same, runs_whole}
+use Rattle.install.specs.InstallCalls.{IsInstallCalls}
+use Rattle.install.proofs.Current.{TellsCurrent, runs_read, same_refused}
+use Rattle.install.proofs.Parts.{hands_behind, hands_stopped, runs_whole}
 
 -- a refusal of the device isn't Changed
 not_changed : (before now : ℕ) (e : Fault) → UnlessMemory e (IsStopped before now e) → e ≢ fault name.Changed
@@ -27,11 +28,11 @@ not_changed before now e h is =
     let both : name.Changed ≡ name.Device = ap (λ (f : Fault). f.name) stopped.0 in
     cc both
 
-refused_since : {X : Type 0} (before middle now : ℕ) (r : Result X Fault) → before ≤ middle → middle ≤ now → IfErr r (λ e. UnlessMemory e (IsStoppedOrChanged middle now e)) → IfErr r (λ e. UnlessMemory e (IsStoppedOrChanged before now e))
+pub refused_since : {X : Type 0} (before middle now : ℕ) (r : Result X Fault) → before ≤ middle → middle ≤ now → IfErr r (λ e. UnlessMemory e (IsStoppedOrChanged middle now e)) → IfErr r (λ e. UnlessMemory e (IsStoppedOrChanged before now e))
 refused_since before middle now (Ok x) one two given = tt
 refused_since before middle now (Err e) one two given = unless_from e (IsStoppedOrChanged middle now e) (IsStoppedOrChanged before now e) (λ g. elim g [ inl s ↦ inl (s.0, failed_since before middle now one two s.1) | inr changed ↦ inr changed ]) given
 
-refused_always_since : {X : Type 0} (before middle now : ℕ) (r : Result X Fault) → before ≤ middle → middle ≤ now → IsErrAnd r (λ e. UnlessMemory e (IsStoppedOrChanged middle now e)) → IsErrAnd r (λ e. UnlessMemory e (IsStoppedOrChanged before now e))
+pub refused_always_since : {X : Type 0} (before middle now : ℕ) (r : Result X Fault) → before ≤ middle → middle ≤ now → IsErrAnd r (λ e. UnlessMemory e (IsStoppedOrChanged middle now e)) → IsErrAnd r (λ e. UnlessMemory e (IsStoppedOrChanged before now e))
 refused_always_since before middle now (Ok x) one two given = absurd given
 refused_always_since {X = X} before middle now (Err e) one two given = refused_since {X = X} before middle now (Err e) one two given
 
@@ -39,26 +40,25 @@ made_since : (front first : List Call) (before middle now : List Step) → middl
 made_since front first before middle now is given =
     given ∙ (ap (λ (s : List Step). s ++ map Done first) is ∙ (append_assoc before (map Done front) (map Done first) ∙ ap (λ (s : List Step). before ++ s) (sym (map-append Done front first))))
 
-again_since : {D X : Type 0} (g : Ghosts D) (front first : List Call) (opened : ℕ) (a b : D) (r : Result X Fault) → g.calls b ≡ g.calls a ++ map Done front → OnOk r (IsReadAgain g first opened b) → OnOk r (IsReadAgain g (front ++ first) opened a)
-again_since g front first opened a b (Ok x) is h = record {
-  before = h.before;
-  after = h.after;
-  made = made_since front first (g.calls a) (g.calls b) (g.calls h.before) is h.made;
-  read = h.read;
-  no_more = h.no_more;
-}
-again_since g front first opened a b (Err e) is h = tt
-
-left_since : {X : Type 0} (front first : List Call) (before middle now : List Step) (r : Result X Fault) → middle ≡ before ++ map Done front → IfErr r (λ e. e ≡ fault name.Changed → now ≡ middle ++ map Done first) → IfErr r (λ e. e ≡ fault name.Changed → now ≡ before ++ map Done (front ++ first))
+pub left_since : {X : Type 0} (front first : List Call) (before middle now : List Step) (r : Result X Fault) → middle ≡ before ++ map Done front → IfErr r (λ e. e ≡ fault name.Changed → now ≡ middle ++ map Done first) → IfErr r (λ e. e ≡ fault name.Changed → now ≡ before ++ map Done (front ++ first))
 left_since front first before middle now (Ok x) is given = tt
 left_since front first before middle now (Err e) is given = λ changed. made_since front first before middle now is (given changed)
 
 weaker : (before now : ℕ) (e : Fault) → UnlessMemory e (IsStopped before now e) → UnlessMemory e (IsStoppedOrChanged before now e)
 weaker before now e h = unless_from e (IsStopped before now e) (IsStoppedOrChanged before now e) (λ s. inl s) h
 
-stopped_since : {X : Type 0} (before middle now : ℕ) (r : Result X Fault) → before ≤ middle → middle ≤ now → IfErr r (λ e. UnlessMemory e (IsStopped middle now e)) → IfErr r (λ e. UnlessMemory e (IsStopped before now e))
+pub stopped_since : {X : Type 0} (before middle now : ℕ) (r : Result X Fault) → before ≤ middle → middle ≤ now → IfErr r (λ e. UnlessMemory e (IsStopped middle now e)) → IfErr r (λ e. UnlessMemory e (IsStopped before now e))
 stopped_since before middle now (Ok x) one two given = tt
 stopped_since before middle now (Err e) one two given = unless_from e (IsStopped middle now e) (IsStopped before now e) (λ s. (s.0, failed_since before middle now one two s.1)) given
+
+-- CURRENT was read, when these calls were made
+abbrev pub IsRead : ℕ → List Reading → List Reading → List Step → Type 0
+IsRead opened before now made = now ≡ before ++ (made, codes "CURRENT", Some (current_text opened)) ∷ []
+
+-- no other file was read before or after it
+read_between : (opened : ℕ) (start before now end : List Reading) (calls made : List Step) → before ≡ start → calls ≡ made → IsRead opened before now calls → end ≡ now → IsRead opened start end made
+read_between opened start before now end calls made none same read more =
+    more ∙ (read ∙ ap₂ (λ (l : List Reading) (s : List Step). l ++ (s, codes "CURRENT", Some (current_text opened)) ∷ []) none same)
 
 module _ {D : Type 0} {g : Ghosts D} (first last : List Call) (opened : ℕ) where
   -- one of the first calls failed, or memory ran out
@@ -71,13 +71,15 @@ module _ {D : Type 0} {g : Ghosts D} (first last : List Call) (opened : ℕ) whe
       let stopped = subst (λ (x : Fault). UnlessMemory x (IsStopped (g.failed a) (g.failed b) x)) (sym h) refused in
       let part : ReportsDevice {X = Y} g a b (Err e) = record { device = stopped_device {X = Y} (g.failed a) (g.failed b) (Err e) refused; at_once = at_once; later = later } in
       record {
-        runs = hands_stopped (λ x. x ≡ e) first last (g.calls a) (g.calls b) (g.tells a) (g.tells b) e (Err f) h runs;
-        left = λ is. absurd (not_changed (g.failed a) (g.failed b) f stopped is);
+        run = record {
+          runs = hands_stopped (λ x. x ≡ e) first last (g.calls a) (g.calls b) (g.tells a) (g.tells b) e (Err f) h runs;
+          left = λ is. absurd (not_changed (g.failed a) (g.failed b) f stopped is);
+          refused = weaker (g.failed a) (g.failed b) f stopped;
+          same_current = λ files tell is. stopped;
+          other_current = λ files tell other. weaker (g.failed a) (g.failed b) f stopped;
+          device = reports_handed (Err f) refl part h;
+        };
         again = tt;
-        refused = weaker (g.failed a) (g.failed b) f stopped;
-        same_current = λ files tell is. stopped;
-        other_current = λ files tell other. weaker (g.failed a) (g.failed b) f stopped;
-        device = reports_handed (Err f) refl part h;
       }
 
   -- CURRENT couldn't be read, or isn't as it was
@@ -96,47 +98,45 @@ module _ {D : Type 0} {g : Ghosts D} (first last : List Call) (opened : ℕ) whe
       ]) answer in
       let refused = subst (λ (x : Fault). UnlessMemory x (IsStoppedOrChanged (g.failed a) (g.failed d) x)) (sym h) given in
       record {
-        runs = hands_behind (λ x. x ≡ e) first last (g.calls a) (g.calls d) (g.tells a) (g.tells d) (Err f) h (runs_read first (g.calls a) (g.calls b) (g.calls d) (g.tells a) (g.tells b) (g.tells d) (Ok tt) reads.same reads.calls whole);
-        left = λ is. reads.calls ∙ (whole.appended ∙ ap (λ (s : List Step). g.calls a ++ s) whole.made);
+        run = record {
+          runs = hands_behind (λ x. x ≡ e) first last (g.calls a) (g.calls d) (g.tells a) (g.tells d) (Err f) h (runs_read first (g.calls a) (g.calls b) (g.calls d) (g.tells a) (g.tells b) (g.tells d) (Ok tt) reads.same reads.calls whole);
+          left = λ is. reads.calls ∙ (whole.appended ∙ ap (λ (s : List Step). g.calls a ++ s) whole.made);
+          refused = refused;
+          same_current = λ files tell is.
+              let now = current files tell in
+              subst (λ (x : Fault). UnlessMemory x (IsStopped (g.failed a) (g.failed d) x)) (sym h)
+              (same_refused {T = Unit {0}} (g.tells b) opened (g.failed a) (g.failed b) (g.failed d) later two.later now.0 now.1 (now.2 ∙ is) (Ok tt) e answer);
+          other_current = λ files tell other. refused;
+          device = reports_then refl one (reports_handed (Err f) refl two h);
+        };
         again = tt;
-        refused = refused;
-        same_current = λ files tell is.
-            let now = current files tell in
-            subst (λ (x : Fault). UnlessMemory x (IsStopped (g.failed a) (g.failed d) x)) (sym h)
-            (same_refused {T = Unit {0}} (g.tells b) opened (g.failed a) (g.failed b) (g.failed d) later two.later now.0 now.1 (now.2 ∙ is) (Ok tt) e answer);
-        other_current = λ files tell other. refused;
-        device = reports_then refl one (reports_handed (Err f) refl two h);
       }
 
   named_by : {X : Type 0} (a b : D) (r : Result X Fault) → MakesCalls (first ++ last) (g.calls a) (g.calls b) (g.tells a) (g.tells b) r → IfErr r (λ e. UnlessMemory e (IsStopped (g.failed a) (g.failed b) e))
-      → ((files : Files) → Tells (g.tells a) files → files (codes "CURRENT") ≡ Some (current_text opened)) → ReportsDevice g a b r → IsReadAgain g first opened a → IsInstallCalls g first last opened a b r
-  named_by a b (Ok x) runs stopped is device again = record {
-    runs = runs;
-    left = tt;
-    again = again;
-    refused = tt;
-    same_current = λ files tell same. tt;
-    other_current = λ files tell other. other (is files tell);
-    device = device;
-  }
+      → ((files : Files) → Tells (g.tells a) files → files (codes "CURRENT") ≡ Some (current_text opened)) → ReportsDevice g a b r → IsRead opened (g.readings a) (g.readings b) (g.calls a ++ map Done first)
+      → IsInstallCalls g first last opened a b r
+  named_by a b (Ok x) runs stopped is device again =
+      record { run = record { runs = runs; left = tt; refused = tt; same_current = λ files tell same. tt; other_current = λ files tell other. other (is files tell); device = device }; again = again }
   named_by a b (Err f) runs stopped is device again = record {
-    runs = runs;
-    left = λ e. absurd (not_changed (g.failed a) (g.failed b) f stopped e);
+    run = record {
+      runs = runs;
+      left = λ e. absurd (not_changed (g.failed a) (g.failed b) f stopped e);
+      refused = weaker (g.failed a) (g.failed b) f stopped;
+      same_current = λ files tell same. stopped;
+      other_current = λ files tell other. absurd (other (is files tell));
+      device = device;
+    };
     again = tt;
-    refused = weaker (g.failed a) (g.failed b) f stopped;
-    same_current = λ files tell same. stopped;
-    other_current = λ files tell other. absurd (other (is files tell));
-    device = device;
   }
 
   -- CURRENT is as it was, so the last calls were made
   pub install_named : {X Y Z : Type 0} (a b d n : D) (y : Y) (z : Z) (r : Result X Fault)
       → MakesCalls {E = Fault} first (g.calls a) (g.calls b) (g.tells a) (g.tells b) (Ok y) → StopsAtDevice (g.failed a) (g.failed b) (Ok y) → g.failed a ≤ g.failed b → TellsCurrent (g.tells a) (g.tells b)
       → OnlyReads g b d → ReportsDevice g b d (Ok z) → g.tells b (codes "CURRENT") (Some (current_text opened))
-      → g.readings d ≡ g.readings b ++ (codes "CURRENT", Some (current_text opened)) ∷ []
+      → g.readings b ≡ g.readings a → IsRead opened (g.readings b) (g.readings d) (g.calls b) → g.readings n ≡ g.readings d
       → MakesCalls last (g.calls d) (g.calls n) (g.tells d) (g.tells n) r → IfErr r (λ e. UnlessMemory e (IsStopped (g.failed d) (g.failed n) e)) → StopsAtDevice (g.failed d) (g.failed n) r → g.failed d ≤ g.failed n
       → IsInstallCalls g first last opened a n r
-  install_named {Y = Y} {Z = Z} a b d n y z r runs at_once later current reads two answer read more refused at_once' later' =
+  install_named {Y = Y} {Z = Z} a b d n y z r runs at_once later current reads two answer before read after more refused at_once' later' =
       let whole = runs_whole first (g.calls a) (g.calls b) (g.tells a) (g.tells b) y runs in
       let one : ReportsDevice {X = Y} g a b (Ok y) = record { device = tt; at_once = at_once; later = later } in
       let both : ReportsDevice {X = Z} g a d (Ok z) = reports_then refl one two in
@@ -146,30 +146,7 @@ module _ {D : Type 0} {g : Ghosts D} (first last : List Call) (opened : ℕ) whe
       (stopped_since (g.failed a) (g.failed d) (g.failed n) r both.later later' refused)
       (λ files tell. let now = current files tell in sym now.2 ∙ (now.1 (codes "CURRENT") (Some (current_text opened))).0 answer)
       (reports_then refl both three)
-      (record { before = b; after = d; made = whole.appended ∙ ap (λ (s : List Step). g.calls a ++ s) whole.made; read = read; no_more = reads.calls })
-
--- after other calls that leave CURRENT as it is
-pub install_after : {D X Y : Type 0} {g : Ghosts D} (front first last : List Call) (opened : ℕ) (a b d : D) (y : Y) (r : Result X Fault)
-    → MakesCalls {E = Fault} front (g.calls a) (g.calls b) (g.tells a) (g.tells b) (Ok y) → StopsAtDevice (g.failed a) (g.failed b) (Ok y) → g.failed a ≤ g.failed b → AllLeaveCurrent front
-    → IsInstallCalls g first last opened b d r → IsInstallCalls g (front ++ first) last opened a d r
-install_after {Y = Y} {g = g} front first last opened a b d y r runs at_once later leave rest =
-    let whole = runs_whole front (g.calls a) (g.calls b) (g.tells a) (g.tells b) y runs in
-    let one : ReportsDevice {X = Y} g a b (Ok y) = record { device = tt; at_once = at_once; later = later } in
-    let current = told_current front leave (g.calls a) (g.calls b) (g.tells a) (g.tells b) whole in
-    record {
-      runs = runs_same (front ++ (first ++ last)) ((front ++ first) ++ last) (g.calls a) (g.calls d) (g.tells a) (g.tells d) r (sym (append_assoc front first last))
-          (runs_then front (first ++ last) (g.calls a) (g.calls b) (g.calls d) (g.tells a) (g.tells b) (g.tells d) tt r whole rest.runs);
-      left = left_since front first (g.calls a) (g.calls b) (g.calls d) r (whole.appended ∙ ap (λ (s : List Step). g.calls a ++ s) whole.made) rest.left;
-      again = again_since g front first opened a b r (whole.appended ∙ ap (λ (s : List Step). g.calls a ++ s) whole.made) rest.again;
-      refused = refused_since (g.failed a) (g.failed b) (g.failed d) r later rest.device.later rest.refused;
-      same_current = λ files tell is.
-          let now = current files tell in
-          stopped_since (g.failed a) (g.failed b) (g.failed d) r later rest.device.later (rest.same_current now.0 now.1 (now.2 ∙ is));
-      other_current = λ files tell other.
-          let now = current files tell in
-          refused_always_since (g.failed a) (g.failed b) (g.failed d) r later rest.device.later (rest.other_current now.0 now.1 (λ is. other (sym now.2 ∙ is)));
-      device = reports_then refl one rest.device;
-    }
+      (read_between opened (g.readings a) (g.readings b) (g.readings d) (g.readings n) (g.calls b) (g.calls a ++ map Done first) before (whole.appended ∙ ap (λ (s : List Step). g.calls a ++ s) whole.made) read after)
 
 -- nothing was done, since memory ran out
 pub install_none : {D X : Type 0} {g : Ghosts D} (first last : List Call) (opened : ℕ) (a : D) (e : Fault) (r : Result X Fault) → e ≡ fault name.Memory → IsErrAnd r (λ f. f ≡ e) → IsInstallCalls g first last opened a a r

@@ -7,7 +7,7 @@ mod ObsoleteNames
 pub mod Changes
 pub mod Parts
 pub mod Outputs
-mod Switch
+pub mod Switch
 pub mod Moments
 pub mod Options
 pub mod Numbers
@@ -20,7 +20,7 @@ mod Before
 pub mod Grouped
 pub mod WorkRows
 mod NamedReads
-mod Pieces
+pub mod Pieces
 mod Survival
 mod TwoPieces
 mod CallsAlone

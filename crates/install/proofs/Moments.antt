@@ -23,7 +23,7 @@ pub leads_split : (start w : World) (one two : List Step) → Leads start (one +
 leads_split start w [] two l = (start, refl, l)
 leads_split start w (step ∷ one) two l = let rest = leads_split l.0 w one two l.2 in (rest.0, (l.0, l.1, rest.1), rest.2)
 
-no_moment : (sofar : List Step) → IsMoment [] sofar → sofar ≡ []
+pub no_moment : (sofar : List Step) → IsMoment [] sofar → sofar ≡ []
 no_moment [] h = refl
 no_moment (now ∷ sofar) h = absurd h
 

@@ -11,7 +11,7 @@ use Rattle.install.specs.declared.file_kind.FileKind.TheVariants.{Manifest, OldT
 table_no_old : (n m : ℕ) → table_name n ≢ old_table_name m
 table_no_old n m = ends_apart (table_name n) (old_table_name m) 98 116 (table_end n) (old_table_end m) (λ e. omega (arith, e))
 
-table_no_temporary : (n m : ℕ) → table_name n ≢ temporary_name m
+pub table_no_temporary : (n m : ℕ) → table_name n ≢ temporary_name m
 table_no_temporary n m = ends_apart (table_name n) (temporary_name m) 98 112 (table_end n) (temporary_end m) (λ e. omega (arith, e))
 
 old_no_temporary : (n m : ℕ) → old_table_name n ≢ temporary_name m

@@ -1,5 +1,5 @@
 -- A manifest without an outcome's edit names no version.
-use Rattle.std.proofs.Common.{◌≡◌, ◌<◌, ◌^◌, ℕ, nat_lt, Bool, true, false, ◌&&◌, List, [], ◌∷◌, map, codes, Option, Some, None, is_some, Result, Ok, Err, refl, sym, ap, subst, ◌∙◌}
+use Rattle.std.proofs.Common.{◌≡◌, ◌<◌, ◌^◌, ℕ, nat_lt, true, false, ◌&&◌, List, [], ◌∷◌, map, codes, Option, Some, None, is_some, Result, Ok, Err, refl, sym, ap, subst, ◌∙◌}
 use Rattle.std.proofs.lemmas.Option.{same_Some}
 use Rattle.std.specs.List.{AllZip}
 use Rattle.edit.proofs.Edits.{one_edit}
@@ -11,7 +11,7 @@ use Rattle.edit.specs.Version.{State, applied, applied_by, empty_state, files_af
 use Rattle.edit.specs.VersionOrder.{snapshot_of}
 use Rattle.std.specs.Option.{ok_or, option_map_or, option_or}
 use Rattle.logrec.proofs.Logs.{log_again}
-use Rattle.folder.specs.Calls.{Done, Files, FolderView}
+use Rattle.folder.specs.Calls.{Done, Files}
 use Rattle.folder.specs.Crash.{Leads, World}
 use Rattle.folder.specs.Manifest.{IsManifestAnswer, is_complete, order_name, version_after_edits}
 use Rattle.folder.specs.Names.{current_text, manifest_name, temporary_name}
@@ -27,7 +27,8 @@ use Rattle.install.proofs.NamedReads.{named_alike}
 use Rattle.install.proofs.Options.{made, option_parts}
 use Rattle.install.proofs.Sound.{bound_value, ok_value, opened_sound, unnamed_value}
 use Rattle.install.proofs.Switch.{CURRENT, manifest_no_current, manifest_no_temporary}
-use Rattle.install.proofs.WorkRows.{last_seven, seven_name}
+use Rattle.install.proofs.WorkRows.{last_seven, seven_name, file_at}
+use Rattle.std.proofs.lemmas.Bool.{and_parts as both_true}
 
 is_empty : IsEdit [] empty_edit
 is_empty = record { fields = []; lawful = tt; spelled = refl; sets = refl }
@@ -57,10 +58,6 @@ no_logs name one two (x ∷ (y ∷ [])) s v e f a b c d are before is =
     let same : l.0 ≡ v = ok_same l.0 v l.2 in
     subst (λ (w : State). w.log_number ≡ None) same (no_log name m.0 l.0 y second (no_log name s m.0 x first before m.1) l.1)
 
-both_true : (a b : Bool) → (a && b) ≡ true → (a ≡ true) × (b ≡ true)
-both_true true b h = (refl, h)
-both_true false b h = absurd (cc h)
-
 no_answer : (v : NamedVersion) (bytes : List ℕ) (number : ℕ) (order : Order) (w : State) → IsEdit bytes empty_edit → IsEdit (edit_bytes (snapshot_of (order_name v.order) (order_cmp v.order) v.version)) (snapshot_of (order_name v.order) (order_cmp v.order) v.version)
     → IsManifestAnswer number (named_bytes v bytes) (Ok (order, w)) → ⊥
 no_answer v bytes number order w empty' again h =
@@ -72,9 +69,6 @@ no_answer v bytes number order w empty' again h =
     let none' : w.log_number ≡ None = no_logs (order_name order) (edit_bytes snap) bytes parts.edits empty_state w snap empty_edit again empty' refl refl are refl from.after in
     let some : is_some w.log_number ≡ true = (both_true (is_some w.log_number) (is_some w.last_sequence) (both_true (is_some w.log_number && is_some w.last_sequence) (option_map_or (nat_lt number) w.next_file false) from.complete).0).0 in
     cc (some, none')
-
-file_at : (name : List ℕ) (s t : FolderView) → s ≡ t → s.files name ≡ t.files name
-file_at name s t is = ap (λ (x : FolderView). x.files name) is
 
 -- the new manifest is there after all
 manifest_there : (n : ℕ) (m : List ℕ) (start w : World) → n < 2 ^ 64 → Leads start (last_seven n m) w → w.shown.files (manifest_name n) ≡ Some m

@@ -1,5 +1,5 @@
 -- Numbers as a set.
-use Rattle.std.proofs.Common.{◌≡◌, ◌⊎◌, ◌<◌, ◌^◌, ℕ, suc, cond, eqb, Bool, true, false, List, [], ◌∷◌, ◌++◌, get_or, refl, sym, ap, subst, ◌∙◌, inl, inr}
+use Rattle.std.proofs.Common.{◌≡◌, ◌<◌, ◌^◌, ℕ, suc, cond, eqb, Bool, true, false, List, [], ◌∷◌, ◌++◌, get_or, sym, ap, subst, ◌∙◌, inl, inr}
 use Rattle.std.proofs.lemmas.Bool.{eq-eqb, eqb-true}
 use Rattle.std.specs.BTreeSet.{BTreeSet, Updates, contains}
 use Rattle.std.specs.Ordering.{nat_cmp}
@@ -7,10 +7,7 @@ use Rattle.edit.proofs.Tested.{is_eq-nat_cmp}
 use Rattle.folder.specs.ReadsAs.{IsOneOf}
 use Rattle.install.proofs.Numbers.{among_append, among_first, among_second}
 use Rattle.install.specs.NumberIn.{IsNumberSet}
-
-pub test : (b : Bool) → (b ≡ true) ⊎ (b ≡ false)
-test true = inl refl
-test false = inr refl
+use Rattle.install.proofs.Outputs.{test_cases as test}
 
 -- one number more
 pub set_more : (old new : BTreeSet ℕ) (numbers : List ℕ) (k : ℕ) → IsNumberSet old numbers → Updates nat_cmp old new k true → IsNumberSet new (numbers ++ k ∷ [])

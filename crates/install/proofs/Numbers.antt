@@ -122,7 +122,7 @@ by_test : (b : Bool) (P : Type 0) → (b ≡ true → P) → (b ≡ true) ⊎ (b
 by_test true P h = inl refl
 by_test false P h = inr refl
 
-is_itself : (n : ℕ) → nat_eq n n ≡ true
+pub is_itself : (n : ℕ) → nat_eq n n ≡ true
 is_itself n = grind arith
 
 -- a number of a level is one of the levels
@@ -167,7 +167,7 @@ in_version cmp v n low m =
     of_levels (numbers_at cmp v) 0 7 l.0 n (omega arith) (omega (arith, l.1))
     (to_order number_of (file_cmp cmp) (tied cmp) [] (files_at v.files l.0) n (inr (in_metas (filter (λ (f : NewFile). nat_eq f.level l.0) v.files) n l.2)))
 
-some_value : {A : Type 0} (b : Bool) (x y : A) → (if b then Some x else None) ≡ Some y → x ≡ y
+pub some_value : {A : Type 0} (b : Bool) (x y : A) → (if b then Some x else None) ≡ Some y → x ≡ y
 some_value true x y h = cc h
 some_value false x y h = absurd (cc h)
 

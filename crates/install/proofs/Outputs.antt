@@ -1,5 +1,5 @@
 -- The tables of an installation, as files with their names, and where they are found again.
-use Rattle.std.proofs.Common.{◌≡◌, ◌≢◌, ◌⊎◌, ℕ, nat_eq, Bool, true, false, List, [], ◌∷◌, ◌++◌, map, unwrap_or, Option, Some, Ok, refl, sym, ap, subst, ◌∙◌, inl, inr, arith}
+use Rattle.std.proofs.Common.{◌≡◌, ◌≢◌, ◌⊎◌, ℕ, nat_eq, Bool, true, false, List, [], ◌∷◌, ◌++◌, map, unwrap_or, Option, Some, Ok, refl, sym, ap, subst, ◌∙◌, inl, inr}
 use Rattle.std.proofs.lemmas.Bool.{eqb-true}
 use Rattle.std.specs.List.{AllZip}
 use Rattle.std.specs.Map.{lookup}
@@ -18,6 +18,7 @@ use Rattle.folder.proofs.CrashLemmas.{stands_made, stands_still}
 use Rattle.folder.proofs.WrittenLemmas.{AllOther, AllWritten, IsShort, Passed, file_stands, leads_first, leads_none, short_behind, short_none, short_tried, written_still}
 use Rattle.install.specs.Install.{table_bytes_of, numbers_of, table_calls}
 use Rattle.install.specs.GroupedInstallation.{tables_of_groups}
+use Rattle.install.proofs.Numbers.{is_itself as same_number}
 
 -- the tables as files, before other files
 abbrev pub filed : List (ℕ × List ℕ) → List (List ℕ × List ℕ) → List (List ℕ × List ℕ)
@@ -123,7 +124,7 @@ pub held_same : (outputs : List (ℕ × List ℕ)) (files now : Files) → ((n :
 held_same [] files now same h = tt
 held_same (t ∷ outputs) files now same h = (same t.0 (inl refl) ∙ h.0, held_same outputs files now (λ n m. same n (inr m)) h.1)
 
-test_cases : (b : Bool) → (b ≡ true) ⊎ (b ≡ false)
+pub test_cases : (b : Bool) → (b ≡ true) ⊎ (b ≡ false)
 test_cases true = inl refl
 test_cases false = inr refl
 
@@ -133,9 +134,6 @@ lookup_here n t tables h = rw h refl
 
 lookup_there : (n : ℕ) (t : ℕ × List ℕ) (tables : List (ℕ × List ℕ)) → nat_eq n t.0 ≡ false → lookup (nat_eq n) (t ∷ tables) ≡ lookup (nat_eq n) tables
 lookup_there n t tables h = rw h refl
-
-same_number : (n : ℕ) → nat_eq n n ≡ true
-same_number n = grind arith
 
 other_number : (n m : ℕ) → nat_eq n m ≡ false → n ≢ m
 other_number n m h same = let e : nat_eq n m ≡ true = subst (λ (k : ℕ). nat_eq n k ≡ true) same (same_number n) in cc

@@ -52,8 +52,8 @@ use Rattle.install.proofs.JoinedBytes.{edits_join}
 use Rattle.install.specs.JoinedEdits.{joined_edit}
 use Rattle.install.proofs.Moments.{Apart, leads_split, made_by}
 use Rattle.install.proofs.NamedReads.{StandsNamed, left_of}
-use Rattle.install.proofs.Numbers.{among_append, in_version, to_order}
-use Rattle.install.proofs.Sound.{IsFile, IsSound, all_of, lawful_edit, value_of}
+use Rattle.install.proofs.Numbers.{among_append, in_version, to_order, some_value as value_of}
+use Rattle.install.proofs.Sound.{IsFile, IsSound, all_of, lawful_edit}
 use Rattle.install.proofs.Options.{made, option_parts}
 use Rattle.install.proofs.Outputs.{AreApart, filed, filed_joined, tables_passed}
 use Rattle.install.proofs.Stays.{AllSpare, stays_as}
@@ -394,7 +394,7 @@ module _ (v : NamedVersion) (tables : List (ℕ × List ℕ)) (has : HasSmallNum
 
 -- ---- a version is named
 
-order_total : (order : Order) → IsTotalOrder (order_cmp order)
+pub order_total : (order : Order) → IsTotalOrder (order_cmp order)
 order_total Bytewise = nat_list_cmp_total
 order_total Shortlex = then_total (on_total length nat_cmp_total) nat_list_cmp_total
 

@@ -41,6 +41,8 @@ use Rattle.folder.proofs.ReadsLemmas.{opened_parts}
 use Rattle.install.specs.ReadsOf.{NamedVersion, Reads, numbers_in}
 use Rattle.install.proofs.Numbers as numbers
 use Rattle.install.proofs.Options.{made, option_parts}
+use Rattle.std.proofs.lemmas.Bool.{and_parts as both_true}
+use Rattle.install.proofs.Numbers.{some_value as value_of}
 
 -- A version that a manifest gave: the code's types say so of each version.
 pub record IsSound (v : NamedVersion) : Type 0 where
@@ -128,10 +130,6 @@ pointers_good : (m : List (ℕ × List ℕ)) (ps : List CompactPointer) → All 
 pointers_good m [] h k = h
 pointers_good m (p ∷ ps) h k = let is = All-head IsPointer p ps k in pointers_good (with_pointer m p) ps (entry_good m p.level p.key is.1 h) (All-tail IsPointer p ps k)
 
-pub value_of : {A : Type 0} (b : Bool) (x y : A) → (if b then Some x else None) ≡ Some y → x ≡ y
-value_of true x y h = cc h
-value_of false x y h = absurd (cc h)
-
 good_after : (s next : State) (e : Edit) → IsGood s → AreLawful e → applied s e ≡ Some next → IsGood next
 good_after s next e h are is =
     let parts = option_parts (made s e) (files_after s.files e.deleted e.added) next is in
@@ -202,10 +200,6 @@ pointers_lawful [] h k = All-nil IsPointer
 pointers_lawful (p ∷ m) h k =
     let levels = map (λ (x : ℕ × List ℕ). x.0) m in
     All-cons IsPointer (pointer_entry p) (map pointer_entry m) (All-head (λ (level : ℕ). level ≤ 6) p.0 levels h, All-head HasKey p m k) (pointers_lawful m (All-tail (λ (level : ℕ). level ≤ 6) p.0 levels h) (All-tail HasKey p m k))
-
-both_true : (a b : Bool) → (a && b) ≡ true → (a ≡ true) × (b ≡ true)
-both_true true b h = (refl, h)
-both_true false b h = absurd (cc h)
 
 all_below : (xs : List ℕ) → list_all (λ (c : ℕ). nat_lt c 128) xs ≡ true → All (λ (c : ℕ). c < 128) xs
 all_below [] h = All-nil (λ (c : ℕ). c < 128)

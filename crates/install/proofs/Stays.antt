@@ -5,13 +5,13 @@ use Rattle.std.specs.declared.cmp.Ordering.{Ordering}
 use Rattle.edit.specs.Version.{State}
 use Rattle.folder.specs.Calls.{Call, Created, Done, Files, FolderSynced, FolderView, Removed, Renamed, Step, Synced, Tried, Written, with_contents, with_value}
 use Rattle.folder.specs.CallSequence.{AreMade, MakesCalls}
-use Rattle.folder.specs.Crash.{Happens, IsMoment, Leads, World, open_world}
+use Rattle.folder.specs.Crash.{Happens, Leads, World, open_world}
 use Rattle.folder.specs.ReadsAs.{Current, ReadsBy, StandsBy}
 use Rattle.folder.specs.declared.order.Order.{Order}
 use Rattle.folder.proofs.CrashLemmas.{left_reads, shown_left, stands_folder_synced, stands_removed, stands_still}
 use Rattle.folder.proofs.PutLemmas.{put_other}
 use Rattle.folder.proofs.WrittenLemmas.{leads_first, leads_none}
-use Rattle.install.proofs.Moments.{leads_split, made_by, moment_made}
+use Rattle.install.proofs.Moments.{leads_split, made_by, moment_made, no_moment}
 use Rattle.install.specs.ObsoleteFile.{AreObsolete, IsObsoleteFile}
 use Rattle.install.specs.Removal.{StaysAs, removal_calls}
 use Rattle.install.proofs.Names.{no_current}
@@ -20,10 +20,6 @@ use Rattle.install.proofs.Changes.{change_by}
 
 at : (f g : Files) (name : List ℕ) → f ≡ g → f name ≡ g name
 at f g name e = ap (λ (h : Files). h name) e
-
-no_moment : (sofar : List Step) → IsMoment [] sofar → sofar ≡ []
-no_moment [] h = refl
-no_moment (now ∷ sofar) h = absurd h
 
 module _ (cmp : List ℕ → List ℕ → Ordering) (order : Order) (v : State) (manifest : ℕ) (tables : List (ℕ × List ℕ)) where
   -- what a crash leaves

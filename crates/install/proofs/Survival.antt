@@ -11,7 +11,7 @@ use Rattle.folder.proofs.RunLemmas.{changes_then}
 use Rattle.folder.proofs.WrittenLemmas.{AllWritten, leads_none}
 use Rattle.install.specs.ReadsOf.{NamedVersion, Reads}
 use Rattle.install.specs.Work.{At, Cleared, Goes, Installed, IsPieceDone, IsSettledEnd, IsWorkOn, NamesNothing, Piece, Place, ReadsOneOf, WorkLink, WorkSurvives, Wrote, begun, calls_of, place_at, tables_after, tables_then}
-use Rattle.install.proofs.Moments.{leads_split, made_by, moment_made}
+use Rattle.install.proofs.Moments.{leads_split, made_by, moment_made, no_moment}
 use Rattle.install.proofs.NamedReads.{StandsNamed, left_of, manifest_small}
 use Rattle.install.proofs.Outputs.{filed}
 use Rattle.install.proofs.Pieces.{Held, IsPlace, cleared, installed, joint_edit, left_held, named_low, none_pending, place_begun, placed, wrote}
@@ -55,10 +55,6 @@ piece_ends sound p q (Cleared names) tables goes = record {
 }
 
 -- ---- a row
-
-no_moment : (sofar : List Step) → IsMoment [] sofar → sofar ≡ []
-no_moment [] h = refl
-no_moment (now ∷ sofar) h = absurd h
 
 whole_moment : (steps : List Step) → IsMoment steps steps
 whole_moment [] = tt

@@ -21,6 +21,7 @@ use Rattle.folder.proofs.ReadsLemmas.{opens, table_same}
 use Rattle.folder.proofs.WrittenLemmas.{AllWritten, leads_first, leads_none, short_none, short_tried, written_still}
 use Rattle.install.specs.Install.{IsBeforeOrAfter, table_bytes_of, numbers_of, next_version_tables}
 use Rattle.install.proofs.Outputs.{AllHeld, among_outputs, filed, filed_parts, filed_synced, held_same, loaded_at, loads, output_held, synced_at}
+use Rattle.install.proofs.Names.{table_no_temporary}
 
 abbrev pub CURRENT : List ℕ
 CURRENT = codes "CURRENT"
@@ -34,16 +35,13 @@ old_table_no_current n = ends_apart (old_table_name n) CURRENT 116 84 (old_table
 pub temporary_no_current : (n : ℕ) → temporary_name n ≢ CURRENT
 temporary_no_current n = ends_apart (temporary_name n) CURRENT 112 84 (temporary_end n) current_end (λ e. omega (arith, e))
 
-pub table_no_temporary : (n m : ℕ) → table_name n ≢ temporary_name m
-table_no_temporary n m = ends_apart (table_name n) (temporary_name m) 98 112 (table_end n) (temporary_end m) (λ e. omega (arith, e))
-
 pub manifest_no_current : (n : ℕ) → n < 2 ^ 64 → manifest_name n ≢ CURRENT
 manifest_no_current n small same = low_apart CURRENT (manifest_name n) 84 current_end (manifest_end n small) (omega arith) (sym same)
 
 pub manifest_no_temporary : (n m : ℕ) → n < 2 ^ 64 → manifest_name n ≢ temporary_name m
 manifest_no_temporary n m small same = low_apart (temporary_name m) (manifest_name n) 112 (temporary_end m) (manifest_end n small) (omega arith) (sym same)
 
-at : {A : Type 0} (f g : List ℕ → A) (name : List ℕ) → f ≡ g → f name ≡ g name
+pub at : {A : Type 0} (f g : List ℕ → A) (name : List ℕ) → f ≡ g → f name ≡ g name
 at f g name e = ap (λ h. h name) e
 
 -- what an installation has to bring about

@@ -40,7 +40,7 @@ abbrev pub last_seven : ℕ → List ℕ → List Step
 last_seven number manifest = Done (Created (manifest_name number) manifest) ∷ (Done (Synced (manifest_name number)) ∷ (Done (Created (temporary_name number) (current_text number)) ∷ (Done (Synced (temporary_name number)) ∷ (Done FolderSynced
     ∷ (Done (Renamed (temporary_name number) (codes "CURRENT")) ∷ (Done FolderSynced ∷ []))))))
 
-file_at : (name : List ℕ) (s t : FolderView) → s ≡ t → s.files name ≡ t.files name
+pub file_at : (name : List ℕ) (s t : FolderView) → s ≡ t → s.files name ≡ t.files name
 file_at name s t is = ap (λ (x : FolderView). x.files name) is
 
 pub seven_name : (number : ℕ) (manifest : List ℕ) (start w : World) → Leads start (last_seven number manifest) w → w.shown.files (codes "CURRENT") ≡ Some (current_text number)

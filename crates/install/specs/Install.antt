@@ -89,6 +89,10 @@ pub record LoadedVersion : Type 0 where
 abbrev pub version_with : State → List (ℕ × List ℕ) → LoadedVersion
 version_with v tables = record { version = v; tables = tables }
 
+-- the next version with its tables, of which these are outputs
+abbrev pub next_with : KeyOrder → State → List (ℕ × List ℕ) → List (ℕ × List ℕ) → LoadedVersion
+next_with cmp next outputs tables = version_with next (next_version_tables cmp next outputs tables)
+
 -- The outputs and the bytes of an edit make the next version of this one, by a manifest of this
 -- number.
 pub record IsEditedBy (cmp : KeyOrder) (v : State) (number : ℕ) (outputs : List (ℕ × List ℕ))

@@ -1,14 +1,11 @@
 -- The removal of files: its calls, who is told of them, and what they leave of a version.
-use Rattle.std.specs.Prelude.{◌≡◌, ℕ, List, [], ◌∷◌, ◌++◌, map, Result, Err}
-use Rattle.edit.specs.Answers.{fault}
+use Rattle.std.specs.Prelude.{ℕ, List, [], ◌∷◌, ◌++◌, map, Result}
 use Rattle.edit.specs.fault.Fault.{Fault}
-use Rattle.edit.specs.fault.FaultName.TheVariants.{Memory}
 use Rattle.edit.specs.Comparator.{KeyOrder}
 use Rattle.edit.specs.Version.{State}
 use Rattle.folder.specs.Calls.{Call, Done, Files, FolderSynced, Removed, Step, Tells}
 use Rattle.folder.specs.CallSequence.{MakesCalls}
 use Rattle.folder.specs.Crash.{LeavesOnly, World}
-use Rattle.folder.specs.Folder.{TellsSame}
 use Rattle.folder.specs.ReadsAs.{ReadsBy}
 use Rattle.folder.specs.declared.order.Order.{Order}
 use Rattle.install.specs.Install.{AlwaysStandsBy}
@@ -31,14 +28,6 @@ pub record IsToldRemoval {W T E : Type 0} (tells : W → List ℕ → W → Type
     (change : FolderChange) (told told_now : W) (result : Result T E) : Type 0 where
   pub runs : MakesCalls calls change.before change.after change.old change.new result
   pub told_all : AreTold tells told (removed_by runs.steps) told_now
-
--- Memory ran out before the first call: nothing was removed or told.
-pub record IsNothingRemoved {W T : Type 0} (change : FolderChange) (told told_now : W)
-    (result : Result T Fault) : Type 0 where
-  pub calls : change.after ≡ change.before
-  pub same : TellsSame change.old change.new
-  pub untold : told_now ≡ told
-  pub answer : result ≡ Err (fault Memory)
 
 -- Files of names like these were removed, up to a call that failed, and then the folder was synced.
 pub record AreRemoved {W T : Type 0} (tells : W → List ℕ → W → Type 0)

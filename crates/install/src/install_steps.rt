@@ -105,6 +105,7 @@ fn write_manifest<F: Folder>(
         (λ e. UnlessMemory e (IsStopped (F.failed folder.old) (F.failed folder.new) e)) }
     ensures at_once { StopsAtDevice (F.failed folder.old) (F.failed folder.new) result }
     ensures later { F.failed folder.old ≤ F.failed folder.new }
+    ensures readings { F.readings folder.new ≡ F.readings folder.old }
 {
     let name = manifest_name(alloc, number)?;
     write(folder, name.as_str(), manifest)?;
@@ -127,6 +128,7 @@ fn write<F: Folder>(folder: &mut F, name: &str, bytes: &[u8]) -> Result<(), Fold
         → OnOk result ((w : World) → Leads start (F.calls folder.new) w →
         StandsAs cmp order v tables w × IsWritten w (name.now, bytes.now)) }
     ensures failures { F.failed folder.new ≡ failures_after (F.failed folder.old) result }
+    ensures readings { F.readings folder.new ≡ F.readings folder.old }
 {
     make_file(folder, name, bytes)
 }
@@ -153,6 +155,7 @@ fn write_temporary<F: Folder>(alloc: Global, folder: &mut F, number: u64) -> Res
         (λ e. UnlessMemory e (IsStopped (F.failed folder.old) (F.failed folder.new) e)) }
     ensures at_once { StopsAtDevice (F.failed folder.old) (F.failed folder.new) result }
     ensures later { F.failed folder.old ≤ F.failed folder.new }
+    ensures readings { F.readings folder.new ≡ F.readings folder.old }
 {
     make_temporary(alloc, folder, number)
 }
@@ -163,7 +166,7 @@ fn test_current<F: Folder>(alloc: Global, folder: &mut F, opened: u64) -> Result
     ensures answer { FolderAnswers (λ u. u) (F.failed folder.old) (F.failed folder.new) result
         (IsCurrentAnswer (F.tells folder.old) opened) }
     ensures again { OnOk result (F.readings folder.new ≡ F.readings folder.old
-        ++ (codes "CURRENT", Some (current_text opened)) ∷ []) }
+        ++ (F.calls folder.old, codes "CURRENT", Some (current_text opened)) ∷ []) }
     ensures device { ReportsDevice F.Folder folder.old folder.new result }
     ensures reads { OnlyReads F.Folder folder.old folder.new }
 {
@@ -182,6 +185,7 @@ fn name_current<F: Folder>(alloc: Global, folder: &mut F, number: u64) -> Result
         (λ e. UnlessMemory e (IsStopped (F.failed folder.old) (F.failed folder.new) e)) }
     ensures at_once { StopsAtDevice (F.failed folder.old) (F.failed folder.new) result }
     ensures later { F.failed folder.old ≤ F.failed folder.new }
+    ensures readings { F.readings folder.new ≡ F.readings folder.old }
 {
     let name = temporary_name(alloc, number)?;
     Ok(make_current(folder, &name)?)
@@ -196,6 +200,7 @@ fn make_current<F: Folder>(folder: &mut F, name: &String) -> Result<(), FolderFa
     ensures both { OnOk result (F.calls folder.new ≡ F.calls folder.old
         ++ Done (Renamed (string_bytes name.now) (codes "CURRENT")) ∷ Done FolderSynced ∷ []) }
     ensures failures { F.failed folder.new ≡ failures_after (F.failed folder.old) result }
+    ensures readings { F.readings folder.new ≡ F.readings folder.old }
 {
     folder.rename(name.as_str(), CURRENT)?;
     folder.sync_folder()
@@ -206,6 +211,7 @@ fn make_file<F: Folder>(folder: &mut F, name: &str, bytes: &[u8]) -> Result<(), 
     ensures runs { MakesCalls (write_calls name.now bytes.now) (F.calls folder.old)
         (F.calls folder.new) (F.tells folder.old) (F.tells folder.new) result }
     ensures failures { F.failed folder.new ≡ failures_after (F.failed folder.old) result }
+    ensures readings { F.readings folder.new ≡ F.readings folder.old }
 {
     folder.create(name, bytes)?;
     folder.sync(name)
@@ -219,6 +225,7 @@ fn make_temporary<F: Folder>(alloc: Global, folder: &mut F, number: u64) -> Resu
         (λ e. UnlessMemory e (IsStopped (F.failed folder.old) (F.failed folder.new) e)) }
     ensures at_once { StopsAtDevice (F.failed folder.old) (F.failed folder.new) result }
     ensures later { F.failed folder.old ≤ F.failed folder.new }
+    ensures readings { F.readings folder.new ≡ F.readings folder.old }
 {
     let name = temporary_name(alloc, number)?;
     let text = current_text(alloc, number)?;

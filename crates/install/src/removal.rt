@@ -10,16 +10,17 @@
 //!    files of numbers from next file on. What it had read ahead before, it drops when it makes its
 //!    first file.
 
-ghost use Rattle.std.specs.Prelude.{◌≡◌, ◌⊎◌, [], ◌∷◌, ℕ, List, map, IfErr, string_bytes};
-ghost use Rattle.edit.specs.Answers.{UnlessMemory};
+ghost use Rattle.std.specs.Prelude.{◌≡◌, ◌⊎◌, [], ◌∷◌, ℕ, List, map, Err, IfErr, string_bytes};
+ghost use Rattle.edit.specs.Answers.{UnlessMemory, fault};
+ghost use Rattle.edit.specs.fault.FaultName.TheVariants.{Memory};
 ghost use Rattle.folder.specs.Calls.{Removed};
 ghost use Rattle.folder.specs.Folder.{failures_after};
 ghost use Rattle.folder.specs.OpenAnswer.{IsStopped};
 ghost use Rattle.folder.specs.Orders.{order_cmp};
 ghost use Rattle.folder.specs.Reports.{ReportsDevice};
-ghost use Rattle.install.specs.Removal.{AreRemoved, IsNothingRemoved, IsToldRemoval, StaysAs};
+ghost use Rattle.install.specs.Removal.{AreRemoved, IsToldRemoval, StaysAs};
 ghost use Rattle.install.specs.Removal.{removal_calls};
-ghost use Rattle.install.specs.FolderChange.{change_of};
+ghost use Rattle.install.specs.FolderChange.{IsUntouched, change_of};
 ghost use Rattle.install.specs.ObsoleteFile.{AreObsolete};
 
 use crate::obsolete_files::obsolete_names;
@@ -47,8 +48,8 @@ pub fn remove_obsolete<F: Folder, W: RemovalWatch>(
 ) -> Result<(), Fault>
     // Nothing was done since memory ran out; or the obsolete ones were removed, up to a call that
     // failed, and then the folder was synced.
-    ensures left { IsNothingRemoved (change_of F.Folder folder.old folder.new) watch.old watch.new
-        result
+    ensures left { (IsUntouched (change_of F.Folder folder.old folder.new) watch.old watch.new
+        × (result ≡ Err (fault Memory)))
         ⊎ AreRemoved W.tells (AreObsolete (order_cmp opened.now.order) opened.now.version
         opened.now.manifest (map string_bytes names.now)) (change_of F.Folder folder.old folder.new)
         watch.old watch.new result }

@@ -72,12 +72,16 @@ impl CallRecord {
     /// Adds what was answered of a whole file.
     pub fn has_read(&mut self, name: &str, answer: &Result<Option<Vec<u8>>, FolderFault>)
         ensures readings { self.new.readings
-            ≡ readings_after self.old.readings name.now answer.now }
+            ≡ readings_after self.old.readings self.old.trail name.now answer.now }
         ensures steps { self.new.steps ≡ self.old.steps }
         ensures failures { self.new.failures ≡ self.old.failures }
         ensures trail { self.new.trail ≡ self.old.trail }
     {
-        self.readings = self.readings.then(&FileRead { name, answer });
+        self.readings = self.readings.then(&FileRead {
+            trail: &self.trail,
+            name,
+            answer,
+        });
     }
 
     /// Makes a call that writes, and adds it to the trail.
@@ -88,6 +92,7 @@ impl CallRecord {
             Alters (step_of (call_in call.entry) result) (files_after_steps self.old.steps files)
             (files_after_steps self.new.steps files) }
         ensures failures { self.new.failures ≡ failures_after self.old.failures result }
+        ensures readings { self.new.readings ≡ self.old.readings }
     {
         let answer = self.record(call);
         self.wrote(AnyWrite::One(call), answer)
@@ -104,6 +109,7 @@ impl CallRecord {
             ≡ self.old.trail ++ step_of (any_call_in call.entry) answer ∷ [] }
         ensures steps { self.new.steps ≡ self.old.steps }
         ensures failures { self.new.failures ≡ self.old.failures }
+        ensures readings { self.new.readings ≡ self.old.readings }
     {
         let is_done = answer.is_ok();
         self.trail = self.trail.then(&Attempt { call, is_done });
@@ -119,6 +125,7 @@ impl CallRecord {
             (files_after_steps self.old.steps files) (files_after_steps self.new.steps files) }
         ensures failures { self.new.failures ≡ failures_after self.old.failures result }
         ensures trail { self.new.trail ≡ self.old.trail }
+        ensures readings { self.new.readings ≡ self.old.readings }
     {
         match made {
             Some(tables) => self.record_tables(&tables),
@@ -133,6 +140,7 @@ impl CallRecord {
             (files_after_steps self.old.steps files) (files_after_steps self.new.steps files) }
         ensures failures { self.new.failures ≡ failures_after self.old.failures result }
         ensures trail { self.new.trail ≡ self.old.trail }
+        ensures readings { self.new.readings ≡ self.old.readings }
     {
         for table in tables {
             let (number, bytes) = table;
@@ -148,6 +156,7 @@ impl CallRecord {
             (files_after_steps self.old.steps files) (files_after_steps self.new.steps files) }
         ensures failures { self.new.failures ≡ failures_after self.old.failures result }
         ensures trail { self.new.trail ≡ self.old.trail }
+        ensures readings { self.new.readings ≡ self.old.readings }
     {
         match table_name(self.alloc, number) {
             Ok(name) => self.record_file(name.as_str(), bytes),
@@ -162,6 +171,7 @@ impl CallRecord {
             (files_after_steps self.old.steps files) (files_after_steps self.new.steps files) }
         ensures failures { self.new.failures ≡ failures_after self.old.failures result }
         ensures trail { self.new.trail ≡ self.old.trail }
+        ensures readings { self.new.readings ≡ self.old.readings }
     {
         self.record(WriteCall::Create(name, bytes))?;
         self.record(WriteCall::Sync(name))
@@ -174,6 +184,7 @@ impl CallRecord {
             (files_after_steps self.new.steps files) }
         ensures failures { self.new.failures ≡ failures_after self.old.failures result }
         ensures trail { self.new.trail ≡ self.old.trail }
+        ensures readings { self.new.readings ≡ self.old.readings }
     {
         let failing = self.called();
         let step = ShelfStep {

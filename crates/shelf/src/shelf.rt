@@ -99,6 +99,13 @@ impl<'a> Shelf<'a> {
         &self.history.steps
     }
 
+    /// The calls that write, as contracts see them.
+    pub fn trail(&self) -> &Trail
+        ensures { result.now.steps ≡ self.now.made.trail }
+    {
+        &self.history.trail
+    }
+
     /// The bytes under a `name`. None if no file has it.
     pub fn file<'x>(&'x self, name: &'x str) -> Option<&'x [u8]>
         ensures { ⟦<Shelf<'a> as Folder>⟧.tells self.now name.now

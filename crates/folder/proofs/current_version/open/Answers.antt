@@ -78,9 +78,8 @@ returns-clause-read g c =
     let number = c.in_ok-number.number in
     let one = subst (λ (bytes : List ℕ). IsNumberAnswer bytes (Ok number)) c.deref.ensures.value c.in_ok-number.ensures in
     let named : c.as_str.result.now ≡ manifest_name number = c.as_str.ensures.value ∙ sym (ok_is (manifest_name number) (string_bytes c.in_ok-name.name) c.in_ok-name.ensures) in
-    let readings = g.F.Folder.readings in
-    version_read (readings c.args.folder.now) (readings c.bytes_under.new.folder) (readings c.bytes_under-2.new.folder) c.in_ok-order.order c.in_ok-order.version number c.in_ok-current.current.items c.as_str.result.now c.in_ok-manifest.manifest.items
-    c.in_ok-current.ensures.read one.1 c.in_ok-manifest.ensures.read named
+    version_read c.args.folder.now c.bytes_under.new.folder c.bytes_under-2.new.folder c.in_ok-order.order c.in_ok-order.version number c.in_ok-current.current.items c.as_str.result.now c.in_ok-manifest.manifest.items
+    c.in_ok-current.ensures.read one.1 c.bytes_under.ensures.reads.calls c.in_ok-manifest.ensures.read named
     (subst (λ (bytes : List ℕ). IsManifestAnswer number bytes (Ok (c.in_ok-order.order, c.in_ok-order.version))) c.deref-2.ensures.value c.in_ok-order.ensures)
 
 pub returns-in_err-current-clause-reads : goal.returns-in_err-current-clause-reads

@@ -35,4 +35,4 @@ returns g c =
     let told = told_current first (manifest_leaves n c.args.manifest.now small) (g.F.Folder.calls a) (g.F.Folder.calls b) (g.F.Folder.tells a) (g.F.Folder.tells b) (runs_whole first _ _ _ _ _ part.runs) in
     let end = c.name_current.ensures in
     install_named first (current_calls n) c.args.opened a b c.test_current.new.folder c.name_current.new.folder _ _ c.name_current.result
-    part.runs part.at_once part.later told c.in_ok-test_current.ensures.reads c.in_ok-test_current.ensures.device c.in_ok-test_current.ensures.answer c.in_ok-test_current.ensures.again end.runs end.refused end.at_once end.later
+    part.runs part.at_once part.later told c.in_ok-test_current.ensures.reads c.in_ok-test_current.ensures.device c.in_ok-test_current.ensures.answer part.readings c.in_ok-test_current.ensures.again end.readings end.runs end.refused end.at_once end.later

@@ -34,7 +34,7 @@ then_spec 𝓤 𝓛 𝓜 𝓡 wired =
     (λ κs. (shr_Tells (named 0) κs.0 readings.the_row, (shr_Tells (named 1) κs.1.0 (file_read.the_row (named_lft 3 2 tt κs)), tt))) (λ κs qs bounds a g are.
     let before : Val = vptr a.0.ref_ptr.0 a.0.ref_ptr.1 in
     let tried : Val = vptr a.1.0.ref_ptr.0 a.1.0.ref_ptr.1 in
-    let made : readings.the_row.Denot = record { files = readings_after a.0.now.files a.1.0.now.name.now a.1.0.now.answer.now } in
+    let made : readings.the_row.Denot = record { files = readings_after a.0.now.files a.1.0.now.trail.now.steps a.1.0.now.name.now a.1.0.now.answer.now } in
     let y : (walk_of 𝓛 f.ended stayed c).Ghost = ((κs, qs, bounds, a, (before ∷ [], (tried ∷ [], tt))), g) in
     qed 𝓛 ((raw (alive 𝓛 f.signature κs qs) ⊛ ‵ (owns (types_at f.signature.params κs) a y.0.4)) ∷ raw ((c κs a).requires g) ∷ []) ∵
     keep ! (0 ∷ []) $ split ! $

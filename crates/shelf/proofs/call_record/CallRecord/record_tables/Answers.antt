@@ -10,7 +10,7 @@ use Rattle.shelf.proofs.ShelfLemmas.{one_failed, one_more, tried_of}
 use Rattle.shelf.proofs.call_record.CallRecord.record_tables.Goals as goal
 
 pub loop-table-init : goal.loop-table-init
-loop-table-init c = record { change = λ files. refl; failures = refl; trail = refl }
+loop-table-init c = record { change = λ files. refl; failures = refl; trail = refl; readings = refl }
 
 pub returns-in_err-record_table-clause-change : goal.returns-in_err-record_table-clause-change
 returns-in_err-record_table-clause-change c = λ files.
@@ -38,6 +38,7 @@ loop-table-preserved c =
           one_more tables c.loop-table.table-index t old made new c.loop-table-test.true c.table-item.is (c.loop-table.invariant.change files) one;
       failures = done.failures ∙ c.loop-table.invariant.failures;
       trail = done.trail ∙ c.loop-table.invariant.trail;
+      readings = done.readings ∙ c.loop-table.invariant.readings;
     }
 
 pub returns-clause-change : goal.returns-clause-change

@@ -11,4 +11,5 @@ invariant-loop-table l = record {
   change : (files : Files) → files_after_steps l.self.steps files ≡ with_files (files_after_steps l.fn.self.steps files) (table_files (take l.table-index l.tables));
   failures : l.self.failures ≡ l.fn.self.failures;
   trail : l.self.trail ≡ l.fn.self.trail;
+  readings : l.self.readings ≡ l.fn.self.readings;
 }

@@ -7,9 +7,9 @@ use Rattle.std.specs.declared.cmp.Ordering.{Ordering}
 use Rattle.std.proofs.lemmas.List.Sums.{count_by-le-length, sum_by-cons}
 use Rattle.std.proofs.lemmas.Bool.{both_ways, false≢true}
 use Rattle.ikey.specs.Order.{internal_cmp}
-use Rattle.ikey.proofs.Ordered.{internal_cmp-total}
+use Rattle.ikey.proofs.Ordered.{internal_cmp-total, is_lt-true}
 use Rattle.reads.specs.meta.FileMeta.{FileMeta}
-use Rattle.merge.proofs.Orders.{less_is, lt_le_trans}
+use Rattle.merge.proofs.Orders.{lt_le_trans}
 use Rattle.keep.specs.Marks.{grandparents_below, LargestRise}
 use Rattle.keep.proofs.RisingTests.{largest_told}
 
@@ -67,10 +67,10 @@ module _ (cmp : List ℕ → List ℕ → Ordering) (total : IsTotalOrder cmp) w
   -- a grandparent before one that lies below a key lies below it
   pub downward : (fs : List FileMeta) (key : List ℕ) → LargestRise cmp fs → (j k : ℕ) (d : FileMeta) → j < k → k < length fs → is_below cmp key (get_or fs k d) ≡ true → is_below cmp key (get_or fs j d) ≡ true
   downward fs key rise j k d below within h =
-      ap is_lt ((internal_cmp-total total).trans (get_or fs j d).largest (get_or fs k d).largest key (largest_told cmp total fs rise j k d below within) (less_is (internal_cmp cmp (get_or fs k d).largest key) h))
+      ap is_lt ((internal_cmp-total total).trans (get_or fs j d).largest (get_or fs k d).largest key (largest_told cmp total fs rise j k d below within) (is_lt-true (internal_cmp cmp (get_or fs k d).largest key) h))
 
   below_more : (f : FileMeta) (a b : List ℕ) → is_le (internal_cmp cmp a b) ≡ true → is_below cmp a f ≡ true → is_below cmp b f ≡ true
-  below_more f a b le h = ap is_lt (lt_le_trans cmp total f.largest a b (less_is (internal_cmp cmp f.largest a) h) le)
+  below_more f a b le h = ap is_lt (lt_le_trans cmp total f.largest a b (is_lt-true (internal_cmp cmp f.largest a) h) le)
 
   count_more : (p q : Bool) (m n : ℕ) → (p ≡ true → q ≡ true) → m ≤ n → cond p 1 0 + m ≤ cond q 1 0 + n
   count_more true true m n f h = omega arith

@@ -6,6 +6,7 @@ use Rattle.ikey.specs.Order.{internal_cmp}
 use Rattle.ikey.specs.Comparator.{KeyOrder}
 use Rattle.reads.specs.EncodedEntry.{Entry}
 use Rattle.reads.specs.meta.FileMeta.{FileMeta}
+use Rattle.pick.specs.PickedInputs.{picked_in}
 use Rattle.pick.specs.declared.picked_inputs.Inputs.{Inputs}
 use Rattle.keep.specs.declared.mark.Mark.{Mark}
 use Rattle.keep.specs.Readable.{Readable}
@@ -37,7 +38,7 @@ pub record CompactionContext : Type 0 where
 abbrev pub context_of : List ℕ → ℕ → Inputs → CompactionContext
 context_of listed floor inputs = record {
   readable = record { listed = listed; floor = floor };
-  deeper = inputs.deeper.items;
+  deeper = (picked_in inputs).deeper;
   grandparents = inputs.grandparents.items;
 }
 

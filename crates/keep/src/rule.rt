@@ -60,13 +60,14 @@ pub(crate) struct Rule<'r> {
 
 impl<'r> Model for Rule<'r> {
     ghost use Rattle.std.specs.List.Sorted.{IsStrictlyIncreasing};
+    ghost use Rattle.pick.specs.PickedInputs.{picked_in};
     ghost use Rattle.keep.specs.Marks.{CompactionContext};
 
     ghost Value = { CompactionContext };
 
     ghost view = { λ r. record {
       readable = record { listed = r.listed.now; floor = r.floor };
-      deeper = r.inputs.now.deeper.items;
+      deeper = (picked_in r.inputs.now).deeper;
       grandparents = r.inputs.now.grandparents.items;
     } };
 

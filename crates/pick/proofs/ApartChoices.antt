@@ -18,7 +18,7 @@ use Rattle.pick.specs.Ranges.{begins_by, ends_at_or_after, is_at_most, overlaps}
 use Rattle.pick.proofs.Lists.{IsIn, Passing, all_from, all_in, and_both, and_first, and_second, any_from, any_gives, cases, false_true, filter_in, in_back, in_either, in_filter, in_front, or_either}
 use Rattle.pick.proofs.UserOrders.{le_trans}
 
-then_le : (o p : Ordering) → is_le (ordering_then o p) ≡ true → is_le o ≡ true
+pub then_le : (o p : Ordering) → is_le (ordering_then o p) ≡ true → is_le o ≡ true
 then_le Less p e = refl
 then_le Equal p e = refl
 then_le Greater p e = absurd cc
@@ -52,7 +52,7 @@ is_there {X = X} (x ∷ xs) q at = of_place (λ i lt e. is_there xs q (i, lt, e)
 
 module _ (cmp : List ℕ → List ℕ → Ordering) (total : IsTotalOrder cmp) where
   -- internal keys that rise have user keys that rise
-  user_le : (a b : List ℕ) → is_le (internal_cmp cmp a b) ≡ true → is_at_most cmp (user_of a) (user_of b) ≡ true
+  pub user_le : (a b : List ℕ) → is_le (internal_cmp cmp a b) ≡ true → is_at_most cmp (user_of a) (user_of b) ≡ true
   unfolding internal_cmp
   user_le a b h = then_le (cmp (user_of a) (user_of b)) _ h
 

@@ -143,12 +143,6 @@ module _ (cmp : List ℕ → List ℕ → Ordering) (total : IsTotalOrder cmp) w
             (ap (λ o. goes_on cmp o q) (largest-push chosen f) ∙ no_more (largest_key cmp chosen) f q within (is_on (is_among chosen q) (goes_on cmp (largest_key cmp chosen) q) e stands) first)
       ]
 
-  among_itself : (f : FileMeta) → is_among (f ∷ []) f ≡ true
-  among_itself f = or_left (eqb f.number f.number) false (own f.number)
-    where
-      own : (n : ℕ) → eqb n n ≡ true
-      own n = grind arith
-
   among_in : (xs : List FileMeta) (q : FileMeta) → IsIn xs q → is_among xs q ≡ true
   among_in xs q i = any_from (λ (g : FileMeta). eqb g.number q.number) xs q i (own q.number)
     where

@@ -60,12 +60,12 @@ overlaps_then true false h e = absurd cc
 overlaps_then false b h e = absurd cc
 
 module _ (cmp : List ℕ → List ℕ → Ordering) (total : IsTotalOrder cmp) where
-  begins_on : (files : List FileMeta) (a b : List ℕ) → begins_by cmp files a ≡ true → is_at_most cmp a b ≡ true → begins_by cmp files b ≡ true
+  pub begins_on : (files : List FileMeta) (a b : List ℕ) → begins_by cmp files a ≡ true → is_at_most cmp a b ≡ true → begins_by cmp files b ≡ true
   begins_on files a b h k =
       let x = any_gives (λ (f : FileMeta). is_at_most cmp (user_of f.smallest) a) files h in
       any_from (λ (f : FileMeta). is_at_most cmp (user_of f.smallest) b) files x.item x.inside (le_trans cmp total (user_of x.item.smallest) a b x.passes k)
 
-  ends_on : (files : List FileMeta) (a b : List ℕ) → ends_at_or_after cmp files b ≡ true → is_at_most cmp a b ≡ true → ends_at_or_after cmp files a ≡ true
+  pub ends_on : (files : List FileMeta) (a b : List ℕ) → ends_at_or_after cmp files b ≡ true → is_at_most cmp a b ≡ true → ends_at_or_after cmp files a ≡ true
   ends_on files a b h k =
       let x = any_gives (λ (f : FileMeta). is_at_most cmp b (user_of f.largest)) files h in
       any_from (λ (f : FileMeta). is_at_most cmp a (user_of f.largest)) files x.item x.inside (le_trans cmp total a b (user_of x.item.largest) k x.passes)
@@ -89,7 +89,7 @@ module _ (cmp : List ℕ → List ℕ → Ordering) (total : IsTotalOrder cmp) w
   one_of P false x y p q = q
 
   -- the range with the user keys of one file more reaches no further than two that are reached
-  reaches_with : (files : List FileMeta) (s l a b : List ℕ) → Reaches cmp files s l → Reaches cmp files a b → Reaches cmp files (lesser_user cmp s a) (greater_user cmp l b)
+  pub reaches_with : (files : List FileMeta) (s l a b : List ℕ) → Reaches cmp files s l → Reaches cmp files a b → Reaches cmp files (lesser_user cmp s a) (greater_user cmp l b)
   reaches_with files s l a b r t = record {
     begins = one_of (λ k. begins_by cmp files k ≡ true) (is_lt (cmp a s)) a s t.begins r.begins;
     ends = one_of (λ k. ends_at_or_after cmp files k ≡ true) (is_lt (cmp l b)) b l t.ends r.ends;

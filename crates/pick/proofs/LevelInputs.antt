@@ -23,7 +23,7 @@ use Rattle.pick.proofs.Lists.{lent}
 use Rattle.pick.proofs.FileSpans.{head_in, IsSpan, span_all, span_more, overlapping_is}
 use Rattle.pick.proofs.ChosenInputs.{some_in, first_in}
 
-inputs_lent : (level : ℕ) (files : List (Bor FileMeta)) → map (λ (f : Bor FileMeta). input_at level f.now) files ≡ map (input_at level) (lent files)
+pub inputs_lent : (level : ℕ) (files : List (Bor FileMeta)) → map (λ (f : Bor FileMeta). input_at level f.now) files ≡ map (input_at level) (lent files)
 inputs_lent level [] = refl
 inputs_lent level (f ∷ files) = ap (λ (l : List InputFile). input_at level f.now ∷ l) (inputs_lent level files)
 

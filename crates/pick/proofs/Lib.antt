@@ -11,5 +11,7 @@ pub mod LaterLevels
 pub mod OneChoice
 pub mod ToldChoices
 pub mod ApartChoices
+pub mod Starts
+pub mod Widened
 pub mod PartRanges
 pub mod PartsApart

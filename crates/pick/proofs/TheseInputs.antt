@@ -1,17 +1,14 @@
 -- Inputs that are given as files.
-use Rattle.std.proofs.Common.{Bor, ◌≡◌, ℕ, ◌+◌, ◌-◌, ◌≤◌, nat_lt, Bool, true, false, cond, List, [], ◌∷◌, ◌++◌, length, map, Some, Result, Ok, Err, refl, sym, ap, ◌∙◌, arith}
+use Rattle.std.proofs.Common.{◌≡◌, ℕ, ◌+◌, ◌-◌, ◌≤◌, nat_lt, cond, List, [], ◌∷◌, ◌++◌, map, Some, refl, ap, ◌∙◌, arith}
 use Rattle.std.specs.List.{filter, slice_get}
 use Rattle.std.specs.Cmp.{IsTotalOrder}
 use Rattle.std.specs.declared.cmp.Ordering.{Ordering}
-use Rattle.edit.specs.Answers.{fault}
-use Rattle.edit.specs.fault.Fault.{Fault}
-use Rattle.edit.specs.fault.FaultName.TheVariants.{NoInput}
 use Rattle.edit.specs.Key.{user_of}
 use Rattle.edit.specs.Version.{State}
 use Rattle.edit.specs.VersionOrder.{level_files}
 use Rattle.edit.specs.declared.meta.FileMeta.{FileMeta}
 use Rattle.pick.specs.NumberedInputs.{these_answer}
-use Rattle.pick.specs.PickedInputs.{PickedInputs, files_from, input_at}
+use Rattle.pick.specs.PickedInputs.{files_from, input_at}
 use Rattle.pick.specs.Ranges.{overlaps}
 use Rattle.pick.specs.Spans.{least_user, greatest_user, is_overlapping}
 use Rattle.pick.specs.declared.picked_inputs.InputFile.{InputFile}
@@ -19,10 +16,6 @@ use Rattle.pick.proofs.FileSpans.{head_in, overlapping_is, span_all, span_more}
 use Rattle.pick.proofs.LevelInputs.{picked_as, same_picked}
 
 module _ (cmp : List ℕ → List ℕ → Ordering) (v : State) (level : ℕ) where
-  pub none_given : (upper lower : List FileMeta) (key : List ℕ) → length upper ≡ 0 → these_answer cmp v level upper lower key ≡ Err (fault NoInput)
-  none_given [] lower key short = refl
-  none_given (f ∷ upper) lower key short = absurd (omega (arith, short))
-
   abbrev near : List FileMeta → List FileMeta
   near files = cond (nat_lt 6 (level + 2)) [] files
 

@@ -28,6 +28,11 @@ not_lt_back Less e = absurd cc
 not_lt_back Equal e = refl
 not_lt_back Greater e = refl
 
+le_not_back : (o : Ordering) → is_le o ≡ true → is_lt (ordering_reverse o) ≡ false
+le_not_back Less e = refl
+le_not_back Equal e = refl
+le_not_back Greater e = absurd cc
+
 module _ (cmp : List ℕ → List ℕ → Ordering) (total : IsTotalOrder cmp) where
   abbrev le : List ℕ → List ℕ → Bool
   le a b = is_at_most cmp a b
@@ -41,7 +46,7 @@ module _ (cmp : List ℕ → List ℕ → Ordering) (total : IsTotalOrder cmp) w
   lt_le : (a b : List ℕ) → is_lt (cmp a b) ≡ true → is_at_most cmp a b ≡ true
   lt_le a b h = ap is_le (lt_less (cmp a b) h)
 
-  not_lt_le : (a b : List ℕ) → is_lt (cmp b a) ≡ false → is_at_most cmp a b ≡ true
+  pub not_lt_le : (a b : List ℕ) → is_lt (cmp b a) ≡ false → is_at_most cmp a b ≡ true
   not_lt_le a b h = ap is_le (total.antisymm a b) ∙ not_lt_back (cmp b a) h
 
   -- the test of the lesser is either test
@@ -64,3 +69,6 @@ module _ (cmp : List ℕ → List ℕ → Ordering) (total : IsTotalOrder cmp) w
 
   pub at_most_greater : (a b k : List ℕ) → is_at_most cmp k (greater_user cmp a b) ≡ (is_at_most cmp k a || is_at_most cmp k b)
   at_most_greater a b k = either_greater a b k (is_lt (cmp a b)) refl (is_at_most cmp k a) (is_at_most cmp k b) refl refl
+
+  pub lesser_same : (a b : List ℕ) → is_at_most cmp a b ≡ true → lesser_user cmp a b ≡ a
+  lesser_same a b h = ap (λ (t : Bool). cond t b a) (ap is_lt (total.antisymm b a) ∙ le_not_back (cmp a b) h)

@@ -10,3 +10,4 @@ pub mod Parts
 -- serves proofs alone
 pub mod Spans
 pub mod Choices
+pub mod FileRanges

@@ -1,6 +1,7 @@
 -- The inputs of a compaction.
 use Rattle.std.specs.Prelude.{◌≡◌, ℕ, zero, suc, ◌+◌, ◌-◌, nat_lt, if◌then◌else◌, List, [], ◌++◌}
 use Rattle.std.specs.Prelude.{length, map, filter, Some, Result, Err, MatchBool, IsOkAnd}
+use Rattle.std.specs.Arc.{arc_value}
 use Rattle.edit.specs.Answers.{fault}
 use Rattle.edit.specs.fault.Fault.{Fault}
 use Rattle.edit.specs.fault.FaultName.TheVariants.{NoInput, Level}
@@ -31,7 +32,7 @@ picked_in i = record {
   level = i.level;
   files = i.files.items;
   grandparents = i.grandparents.items;
-  deeper = i.deeper.items;
+  deeper = (arc_value i.deeper).items;
   pointer = i.pointer;
 }
 

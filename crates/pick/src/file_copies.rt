@@ -2,17 +2,20 @@
 
 ghost use Rattle.std.specs.Prelude.{◌≡◌, ◌≤◌, ◌+◌, ◌-◌, ◌++◌, Ok, [], nat_lt, if◌then◌else◌, map};
 ghost use Rattle.std.specs.Prelude.{filter, OnOk, IfErr};
+ghost use Rattle.std.specs.Arc.{arc_value};
 ghost use Rattle.edit.specs.Answers.{EqualOrMemory, fault};
 ghost use Rattle.edit.specs.fault.FaultName.TheVariants.{Memory};
 ghost use Rattle.edit.specs.VersionOrder.{level_files};
 ghost use Rattle.edit.specs.declared.meta.TheConstants.{LAST_LEVEL, LEVELS};
 ghost use Rattle.pick.specs.Choices.{is_in};
+ghost use Rattle.pick.specs.FileRanges.{vector_files};
 ghost use Rattle.pick.specs.PickedInputs.{files_from, input_at};
 
 use crate::picked_inputs::InputFile;
 use crate::range::UserRange;
 use edit::{Comparator, Fault, FileMeta, LAST_LEVEL, LEVELS, Version};
 use std::alloc::Global;
+use std::sync::Arc;
 
 /// Appends copies of `files` as inputs of `level`.
 pub(crate) fn push_inputs(
@@ -33,7 +36,11 @@ pub(crate) fn push_inputs(
 }
 
 /// Appends copies of `files`.
-fn push_copies(alloc: Global, copies: &mut Vec<FileMeta>, files: &[&FileMeta]) -> Result<(), Fault>
+pub(crate) fn push_copies(
+    alloc: Global,
+    copies: &mut Vec<FileMeta>,
+    files: &[&FileMeta],
+) -> Result<(), Fault>
     ensures ok { OnOk result (copies.new.items ≡ copies.old.items ++ map (λ f. f.now) files.now) }
     ensures memory { IfErr result (λ e. e ≡ fault Memory) }
 {
@@ -64,13 +71,13 @@ fn overlapping<C: Comparator>(
     Ok(found)
 }
 
-/// Copies of the files of the levels from `from` to 6, by level and in version order.
+/// Copies of the files of the levels from `from` to 6, by level and in version order, to share.
 pub(crate) fn deeper_files<C: Comparator>(
     alloc: Global,
     version: &Version,
     from: u64,
-) -> Result<Vec<FileMeta>, Fault>
-    ensures { EqualOrMemory (λ v. v.items) result
+) -> Result<Arc<Vec<FileMeta>>, Fault>
+    ensures { EqualOrMemory (λ v. vector_files (arc_value v)) result
         (Ok (files_from C.cmp version.now from (LEVELS - from))) }
 {
     let mut deeper = Vec::new(alloc);
@@ -78,7 +85,7 @@ pub(crate) fn deeper_files<C: Comparator>(
         let files = version.files::<C>(alloc, level)?;
         push_copies(alloc, &mut deeper, &files)?;
     }
-    Ok(deeper)
+    Ok(Arc::new(alloc, deeper)?)
 }
 
 /// Copies of the grandparents: the files of `level`, two below the compaction's, whose user keys

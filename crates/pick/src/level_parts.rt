@@ -6,29 +6,32 @@
 //! order.
 //!
 //! Each part is the least such set around one of its files. It sets the compact pointer that the
-//! level has.
+//! level has. All parts of a lawful level take the time of one sort, and the memory of copies of
+//! their files and of one list of all deeper ones, which they share.
 
-ghost use Rattle.std.specs.Prelude.{◌≡◌, ◌≤◌, ◌+◌, ◌++◌, true, Ok, OnOk, IfErr, IsOkAnd};
-ghost use Rattle.std.specs.Prelude.{map, filter};
-ghost use Rattle.std.specs.List.{list_any};
-ghost use Rattle.edit.specs.Answers.{EqualOrMemory, HoldsOrMemory, fault};
-ghost use Rattle.edit.specs.fault.FaultName.TheVariants.{Memory};
+ghost use Rattle.std.specs.Prelude.{◌≡◌, ◌≤◌, ◌+◌, ◌++◌, [], true, Ok, IsOkAnd, map, filter};
+ghost use Rattle.std.specs.Prelude.{nat_lt, if◌then◌else◌};
+ghost use Rattle.std.specs.Arc.{arc_value};
+ghost use Rattle.edit.specs.Answers.{EqualOrMemory, HoldsOrMemory};
+ghost use Rattle.edit.specs.Version.{IsState};
 ghost use Rattle.edit.specs.VersionOrder.{level_files};
+ghost use Rattle.edit.specs.declared.meta.TheConstants.{LAST_LEVEL};
 ghost use Rattle.pick.specs.ApartChoice.{both_files};
-ghost use Rattle.pick.specs.NumberedInputs.{these_answer};
+ghost use Rattle.pick.specs.Choices.{is_in};
+ghost use Rattle.pick.specs.FileRanges.{AreByStart, ending_from as files_ending_from};
 ghost use Rattle.pick.specs.Parts.{AreParts, IsPartsAnswer, have_ranges as all_have_ranges};
-ghost use Rattle.pick.specs.PickedInputs.{picked_in};
-ghost use Rattle.pick.specs.Spans.{is_overlapping};
+ghost use Rattle.pick.specs.PickedInputs.{input_at, picked_in};
 ghost use Rattle.pick.specs.declared.input_choice.TheConstants.{LAST_INPUT_LEVEL};
 
 use crate::boundaries::largest_of;
-use crate::choice::grown_range;
-use crate::input_choice::LAST_INPUT_LEVEL;
-use crate::numbered_choice::these_inputs;
+use crate::file_copies::{deeper_files, push_copies};
+use crate::file_ranges::{ending_from, file_ranges, files_in};
+use crate::input_choice::{LAST_INPUT_LEVEL, files_of};
 use crate::picked_inputs::Inputs;
 use crate::range::UserRange;
-use edit::{Comparator, Fault, FaultName, FileMeta, KeyBuf, Version};
+use edit::{CompactPointer, Comparator, Fault, FaultName, FileMeta, KeyBuf, LAST_LEVEL, Version};
 use std::alloc::Global;
+use std::sync::Arc;
 
 /// The finest parts of `level`, in the order of their first files. None if the level has no file.
 ///
@@ -85,107 +88,122 @@ fn have_ranges<C: Comparator>(files: &[&FileMeta]) -> bool
     true
 }
 
-/// The parts of a level.
+/// The parts of a level: the files of each range that both levels fill together, if one of them is
+/// of the level.
 fn parts_of<C: Comparator>(alloc: Global, sides: Sides<'_>) -> Result<Vec<Inputs>, Fault>
     requires level { sides.level ≤ LAST_INPUT_LEVEL }
     requires upper { map (λ f. f.now) sides.upper.now
         ≡ level_files C.cmp sides.version.now sides.level }
     requires lower { map (λ f. f.now) sides.lower.now
         ≡ level_files C.cmp sides.version.now (sides.level + 1) }
+    requires state { IsState sides.version.now.pointers sides.version.now.files }
     requires ranges { all_have_ranges C.cmp (both_files C.cmp sides.version.now sides.level)
         ≡ true }
     ensures { HoldsOrMemory (λ v. map picked_in v.items) result
         (λ answer. IsOkAnd answer (AreParts C.cmp sides.entry.version.now sides.entry.level
         sides.entry.key.now)) }
 {
-    let both = joined(alloc, sides.upper, sides.lower)?;
-    let mut ranges = Vec::new(alloc);
+    let near = files_to_last::<C>(alloc, sides.version, sides.level + 2)?;
+    let deeper = deeper_files::<C>(alloc, sides.version, sides.level + 2)?;
+    let ranges = file_ranges::<C>(alloc, sides.upper, sides.lower)?;
+    let mut ahead = Ahead {
+        upper: sides.upper,
+        lower: sides.lower,
+        near: &near,
+    };
     let mut parts = Vec::new(alloc);
-    for file in sides.upper {
-        if !is_in_some::<C>(&ranges, *file) {
-            let range = grown_range::<C>(&both, *file);
-            let part = inputs_in::<C>(alloc, sides, range)?;
+    for range in &ranges {
+        ahead = ahead.reached::<C>(*range);
+        let upper = files_in::<C>(alloc, ahead.upper, *range)?;
+        if !upper.is_empty() {
+            let part = part_in::<C>(alloc, sides, &deeper, &upper, ahead, *range)?;
             parts.push(part)?;
-            ranges.push(range)?;
         }
     }
     Ok(parts)
 }
 
-/// The files of both levels.
-fn joined<'v>(
+/// The files of `level`; none if it is above 6.
+fn files_to_last<C: Comparator>(
     alloc: Global,
-    upper: &[&'v FileMeta],
-    lower: &[&'v FileMeta],
-) -> Result<Vec<&'v FileMeta>, Fault>
+    version: &Version,
+    level: u64,
+) -> Result<Vec<&FileMeta>, Fault>
     ensures { EqualOrMemory (λ v. map (λ f. f.now) v.items) result
-        (Ok (map (λ f. f.now) upper.now ++ map (λ f. f.now) lower.now)) }
+        (Ok (if nat_lt LAST_LEVEL level then [] else level_files C.cmp version.now level)) }
 {
-    let mut both = Vec::with_capacity(alloc, upper.len() + lower.len())?;
-    push_all(&mut both, upper)?;
-    push_all(&mut both, lower)?;
-    Ok(both)
-}
-
-/// Appends these files.
-fn push_all<'v>(to: &mut Vec<&'v FileMeta>, files: &[&'v FileMeta]) -> Result<(), Fault>
-    ensures ok { OnOk result (map (λ f. f.now) to.new.items
-        ≡ map (λ f. f.now) to.old.items ++ map (λ f. f.now) files.now) }
-    ensures memory { IfErr result (λ e. e ≡ fault Memory) }
-{
-    for file in files {
-        to.push(*file)?;
+    if level > LAST_LEVEL {
+        return Ok(Vec::new(alloc));
     }
-    Ok(())
+    version.files::<C>(alloc, level)
 }
 
-/// Whether the range of a file overlaps one of these.
-fn is_in_some<C: Comparator>(ranges: &[UserRange<'_>], file: &FileMeta) -> bool
-    ensures { result ≡ list_any (λ r. is_overlapping C.cmp r.smallest.now r.largest.now file.now)
-        ranges.now }
-{
-    for range in ranges {
-        if range.overlaps::<C>(file) {
-            return true;
+/// The files of a level, of the next one and of that after it that a range or those behind it can
+/// overlap.
+#[derive(Clone, Copy)]
+struct Ahead<'s> {
+    upper: &'s [&'s FileMeta],
+    lower: &'s [&'s FileMeta],
+    near: &'s [&'s FileMeta],
+}
+
+impl<'s> Ahead<'s> {
+    /// Without those at the front that end before a range.
+    fn reached<C: Comparator>(self, range: UserRange<'_>) -> Ahead<'s>
+        ensures upper { map (λ f. f.now) result.upper.now
+            ≡ files_ending_from C.cmp range.entry.smallest.now
+            (map (λ f. f.now) self.entry.upper.now) }
+        ensures lower { map (λ f. f.now) result.lower.now
+            ≡ files_ending_from C.cmp range.entry.smallest.now
+            (map (λ f. f.now) self.entry.lower.now) }
+        ensures near { map (λ f. f.now) result.near.now
+            ≡ files_ending_from C.cmp range.entry.smallest.now
+            (map (λ f. f.now) self.entry.near.now) }
+    {
+        Ahead {
+            upper: ending_from::<C>(self.upper, range),
+            lower: ending_from::<C>(self.lower, range),
+            near: ending_from::<C>(self.near, range),
         }
     }
-    false
 }
 
-/// The inputs whose ranges overlap this one.
-fn inputs_in<C: Comparator>(
+/// The part of a range: these files of the level, and those ahead of the next two whose ranges
+/// overlap it.
+fn part_in<C: Comparator>(
     alloc: Global,
     sides: Sides<'_>,
+    deeper: &Arc<Vec<FileMeta>>,
+    upper: &[&FileMeta],
+    ahead: Ahead<'_>,
     range: UserRange<'_>,
 ) -> Result<Inputs, Fault>
-    requires { sides.level ≤ LAST_INPUT_LEVEL }
-    ensures { EqualOrMemory picked_in result
-        (these_answer C.cmp sides.entry.version.now sides.entry.level
-        (filter (is_overlapping C.cmp range.entry.smallest.now range.entry.largest.now)
-        (map (λ f. f.now) sides.entry.upper.now))
-        (filter (is_overlapping C.cmp range.entry.smallest.now range.entry.largest.now)
-        (map (λ f. f.now) sides.entry.lower.now)) sides.entry.key.now) }
+    requires level { sides.level ≤ LAST_INPUT_LEVEL }
+    requires lower { AreByStart C.cmp (map (λ f. f.now) ahead.lower.now) }
+    requires near { AreByStart C.cmp (map (λ f. f.now) ahead.near.now) }
+    ensures { EqualOrMemory picked_in result (Ok (record {
+      level = sides.entry.level;
+      files = map (λ f. input_at sides.entry.level f.now) upper.now
+          ++ map (input_at (sides.entry.level + 1))
+          (filter (is_in C.cmp range.entry) (map (λ f. f.now) ahead.entry.lower.now));
+      grandparents = filter (is_in C.cmp range.entry) (map (λ f. f.now) ahead.entry.near.now);
+      deeper = (arc_value deeper.now).items;
+      pointer = record { level = sides.entry.level; key = sides.entry.key.now };
+    })) }
 {
-    let upper = files_in::<C>(alloc, sides.upper, range)?;
-    let lower = files_in::<C>(alloc, sides.lower, range)?;
-    these_inputs::<C>(alloc, sides.version, sides.level, &upper, &lower, sides.key)
-}
-
-/// The files whose ranges overlap this one.
-fn files_in<'v, C: Comparator>(
-    alloc: Global,
-    files: &[&'v FileMeta],
-    range: UserRange<'_>,
-) -> Result<Vec<&'v FileMeta>, Fault>
-    ensures { EqualOrMemory (λ v. map (λ f. f.now) v.items) result
-        (Ok (filter (is_overlapping C.cmp range.entry.smallest.now range.entry.largest.now)
-        (map (λ f. f.now) files.now))) }
-{
-    let mut found = Vec::new(alloc);
-    for file in files {
-        if range.overlaps::<C>(*file) {
-            found.push(*file)?;
-        }
-    }
-    Ok(found)
+    let level = sides.level;
+    let lower = files_in::<C>(alloc, ahead.lower, range)?;
+    let near = files_in::<C>(alloc, ahead.near, range)?;
+    let mut grandparents = Vec::with_capacity(alloc, near.len())?;
+    push_copies(alloc, &mut grandparents, &near)?;
+    Ok(Inputs {
+        level,
+        files: files_of(alloc, level, upper, &lower)?,
+        grandparents,
+        deeper: Arc::try_clone(deeper)?,
+        pointer: CompactPointer {
+            level,
+            key: KeyBuf::of(alloc, sides.key.as_key())?,
+        },
+    })
 }

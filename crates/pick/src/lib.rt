@@ -24,6 +24,7 @@ mod choice;
 mod choice_law;
 mod closed_choice;
 mod file_copies;
+mod file_ranges;
 mod input_choice;
 mod level_files;
 mod level_parts;

@@ -46,7 +46,7 @@ pub fn numbered_inputs<C: Comparator>(
 
 /// The inputs that are these files of `level` and of the next one. NoInput if there is none of
 /// `level`; else Memory alone.
-pub(crate) fn these_inputs<C: Comparator>(
+fn these_inputs<C: Comparator>(
     alloc: Global,
     version: &Version,
     level: u64,

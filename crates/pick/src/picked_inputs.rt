@@ -1,10 +1,12 @@
 //! What a compaction takes.
 
 ghost use Rattle.std.specs.Prelude.{◌≡◌};
+ghost use Rattle.pick.specs.PickedInputs.{picked_in};
 ghost use Rattle.pick.specs.Ranges.{is_in_none};
 
 use crate::range::holds_user;
 use edit::{CompactPointer, Comparator, FileMeta};
+use std::sync::Arc;
 
 /// An input of a compaction: a file and its level.
 #[derive(Drop)]
@@ -25,8 +27,9 @@ pub struct Inputs {
     /// The grandparents: files of `level` + 2 whose range of user keys overlaps that of all inputs,
     /// in version order.
     pub grandparents: Vec<FileMeta>,
-    /// All files of the levels from `level` + 2 to 6, by level and in version order.
-    pub deeper: Vec<FileMeta>,
+    /// All files of the levels from `level` + 2 to 6, by level and in version order. The parts of a
+    /// level share them.
+    pub deeper: Arc<Vec<FileMeta>>,
     /// The level's new compact pointer, as the edit sets it: the greatest key of the level's
     /// inputs.
     pub pointer: CompactPointer,
@@ -34,7 +37,7 @@ pub struct Inputs {
 
 /// Whether a user key is at its base: no deeper file's range of user keys holds it.
 pub fn is_base<C: Comparator>(inputs: &Inputs, user_key: &[u8]) -> bool
-    ensures { result ≡ is_in_none C.cmp inputs.now.deeper.items user_key.now }
+    ensures { result ≡ is_in_none C.cmp (picked_in inputs.now).deeper user_key.now }
 {
     !inputs
         .deeper

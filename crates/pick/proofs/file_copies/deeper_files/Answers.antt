@@ -1,4 +1,5 @@
-use Rattle.std.proofs.Common.{◌-◌, List, Result, Ok, sym, ap}
+use Rattle.std.proofs.Common.{◌-◌, List, Result, Ok, sym, ap, ◌∙◌}
+use Rattle.std.specs.Global.{Vec}
 use Rattle.edit.specs.fault.Fault.{Fault}
 use Rattle.edit.proofs.Binds.{ok_is}
 use Rattle.edit.specs.VersionOrder.{level_files}
@@ -21,3 +22,4 @@ loop-level-preserved g c =
 pub returns : goal.returns
 returns g c =
     ap metas (deeper_all g.C.Comparator.cmp c.args.version.now c.loop-level.level c.loop-level.deeper.items (files_from g.C.Comparator.cmp c.args.version.now c.args.from (7 - c.args.from)) c.loop-level-test.false c.loop-level.invariant)
+    ∙ ap (λ (files : Vec FileMeta). metas files.items) (sym c.in_ok-new.ensures.ok)

@@ -2,6 +2,7 @@
 use Rattle.std.proofs.Common.{◌≡◌, ◌⊎◌, ℕ, ◌≤◌, List, Option, Result, Ok, Err, IfErr, IsErrAnd, refl, sym, ap, ◌∙◌, arith}
 use Rattle.std.specs.declared.cmp.Ordering.{Ordering}
 use Rattle.table.proofs.Refusals.{unless_from, only_memory}
+use Rattle.table.proofs.Binds.{done, failed}
 use Rattle.table.specs.Answers.{EqualOrMemory, HoldsOrMemory, UnlessMemory}
 use Rattle.table.specs.fault.Fault.{Fault}
 use Rattle.edit.specs.Version.{State}
@@ -19,49 +20,43 @@ use Rattle.checks.specs.declared.version_totals.VersionTotals.{VersionTotals}
 use Rattle.folder.specs.Orders.{order_cmp}
 use Rattle.answers.specs.FolderLines.{IsAnswerOfFolder, IsAnswerOfVersion}
 
-abbrev refusal : {Y : Type 0} → Fault → Result Y Fault
-refusal e = Err e
-
-abbrev answer : {Y : Type 0} → Y → Result Y Fault
-answer y = Ok y
-
-no_refusal : {Y : Type 0} (y : Y) (e : Fault) → answer y ≡ refusal e → ⊥
+no_refusal : {Y : Type 0} (y : Y) (e : Fault) → done y ≡ failed e → ⊥
 no_refusal y e h = cc
 
-no_answer : {Y : Type 0} (y : Y) (e : Fault) → refusal e ≡ answer y → ⊥
+no_answer : {Y : Type 0} (y : Y) (e : Fault) → failed e ≡ done y → ⊥
 no_answer y e h = cc
 
-same_answer : {Y : Type 0} (x y : Y) → answer x ≡ answer y → x ≡ y
+same_answer : {Y : Type 0} (x y : Y) → done x ≡ done y → x ≡ y
 same_answer x y h = cc
 
 -- a refusal of one type as that of another
-same_refusal : {Y Z : Type 0} (e d : Fault) → refusal {Y = Y} e ≡ refusal d → refusal {Y = Z} e ≡ refusal d
-same_refusal {Z = Z} e d h = let one : e ≡ d = cc in ap (λ (f : Fault). refusal {Y = Z} f) one
+same_refusal : {Y Z : Type 0} (e d : Fault) → failed {A = Y} e ≡ failed d → failed {A = Z} e ≡ failed d
+same_refusal {Z = Z} e d h = let one : e ≡ d = cc in ap (λ (f : Fault). failed {A = Z} f) one
 
 -- what a call answers alone is its answer
 pub answer_holds : {X Y : Type 0} (view : X → Y) (r : Result X Fault) (y : Y)
     → EqualOrMemory view r (Ok y) → HoldsOrMemory view r (λ a. a ≡ Ok y)
 answer_holds view (Ok x) y given = sym given
 answer_holds view (Err e) y given =
-    unless_from e (Ok y ≡ refusal e) (refusal e ≡ Ok y) (λ same. absurd (no_refusal y e same)) given
+    unless_from e (Ok y ≡ failed e) (failed e ≡ Ok y) (λ same. absurd (no_refusal y e same)) given
 
 -- it is refused for Memory alone
 pub answer_device : {X Y : Type 0} (view : X → Y) (before now : ℕ) (r : Result X Fault) (y : Y)
     → EqualOrMemory view r (Ok y) → IfErr r (HasDeviceFailed before now)
 answer_device view before now (Ok x) y given = tt
 answer_device view before now (Err e) y given =
-    let memory = only_memory e (Ok y ≡ refusal e) (no_refusal y e) given in
+    let memory = only_memory e (Ok y ≡ failed e) (no_refusal y e) given in
     λ same. let is = sym (ap (λ (f : Fault). f.name) memory) ∙ same in absurd cc
 
 -- the refusal of a call whose definition answers a value
-pub value_refused : {X Y Z : Type 0} (view : X → Y) (before now : ℕ) (r : Result X Fault) (e : Fault) (z : Z) (y : Y) → IsErrAnd r (λ f. f ≡ e) → before ≤ now → UnlessMemory e (IsStopped before now e ⊎ (refusal e ≡ answer z))
+pub value_refused : {X Y Z : Type 0} (view : X → Y) (before now : ℕ) (r : Result X Fault) (e : Fault) (z : Z) (y : Y) → IsErrAnd r (λ f. f ≡ e) → before ≤ now → UnlessMemory e (IsStopped before now e ⊎ (failed e ≡ done z))
     → FolderAnswers view before now r (λ a. a ≡ Ok y)
 value_refused view before now r e z y is later given =
-    hands_on view before before now r e (λ a. a ≡ answer z) (λ a. a ≡ answer y) is (omega arith) later given (λ same. absurd (no_refusal z e (sym same)))
+    hands_on view before before now r e (λ a. a ≡ done z) (λ a. a ≡ done y) is (omega arith) later given (λ same. absurd (no_refusal z e (sym same)))
 
 -- what is made of a value alone
 pub value_told : {X Y : Type 0} (view : X → Y) (before now : ℕ) (r : Result X Fault) (y : Y) → EqualOrMemory view r (Ok y) → FolderAnswers view before now r (λ a. a ≡ Ok y)
-value_told view before now r y h = answers_alone view before now r (λ a. a ≡ answer y) (λ a. a ≡ answer y) (λ a same. same) (answer_holds view r y h)
+value_told view before now r y h = answers_alone view before now r (λ a. a ≡ done y) (λ a. a ≡ done y) (λ a same. same) (answer_holds view r y h)
 
 -- the folder isn't opened
 pub not_opened : {Y : Type 0} (tells : List ℕ → Option (List ℕ) → Type 0) (answer_of : State → List NumberedContents → Y) (e : Fault) → IsOpened tells (Err e) → IsAnswerOfFolder tells answer_of (Err e)
@@ -96,7 +91,7 @@ module _ (tells : List ℕ → Option (List ℕ) → Type 0) (cmp : List ℕ →
   -- what is answered of what the test tells
   pub answer_of_tested : {Y : Type 0} (f : VersionTotals → Y) (t : VersionTotals) → IsTested tells cmp v (Ok t) → IsAnswerOfVersion tells cmp v (λ tables. f (totals_of tables)) (Ok (f t))
   answer_of_tested f t (Ok loaded, (there, (Ok tables, (sound, is)))) =
-      (Ok loaded, (there, (Ok tables, (sound, ap (λ (x : VersionTotals). answer (f x)) (same_answer t (totals_of tables) is)))))
+      (Ok loaded, (there, (Ok tables, (sound, ap (λ (x : VersionTotals). done (f x)) (same_answer t (totals_of tables) is)))))
   answer_of_tested f t (Ok loaded, (there, (Err d, (sound, is)))) = absurd (no_refusal t d is)
   answer_of_tested f t (Err d, (there, is)) = absurd (no_refusal t d is)
 

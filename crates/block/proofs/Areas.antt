@@ -12,6 +12,7 @@ use Rattle.block.specs.BlockPass.{key_len_after, AreBelowLimit, PassRead, PassAh
 use Rattle.block.specs.EntryFormat.{FieldReading, encoded_entry_at}
 use Rattle.block.proofs.Pieces.{plain, Widths, Widths-of, reads_piece, piece_at_front, front_entry_at-nil, length-piece_bytes_pos}
 use Rattle.block.proofs.Restarts.{words, length-words, same_word}
+use Rattle.block.proofs.Written.{AllByRecursion-append, restarts_from-push}
 
 -- a piece at which a restart points, or none
 abbrev pub marked : Bool → EncodedEntry → EncodedEntry
@@ -19,11 +20,7 @@ marked b p = record { is_restart = b; shared = p.shared; unshared = p.unshared; 
 
 -- ---- restarts
 
-pub AllByRecursion-append : (P : ℕ → Type 0) (xs ys : List ℕ) → AllByRecursion P xs → AllByRecursion P ys → AllByRecursion P (xs ++ ys)
-AllByRecursion-append P [] ys h q = q
-AllByRecursion-append P (x ∷ xs) ys h q = (h.0, AllByRecursion-append P xs ys h.1 q)
-
-pub AllByRecursion-weaker : (P Q : ℕ → Type 0) → ((x : ℕ) → P x → Q x) → (xs : List ℕ) → AllByRecursion P xs → AllByRecursion Q xs
+pub AllByRecursion-weaker : {X : Type 0} (P Q : X → Type 0) → ((x : X) → P x → Q x) → (xs : List X) → AllByRecursion P xs → AllByRecursion Q xs
 AllByRecursion-weaker P Q f [] h = tt
 AllByRecursion-weaker P Q f (x ∷ xs) h = (f x h.0, AllByRecursion-weaker P Q f xs h.1)
 
@@ -32,18 +29,11 @@ marks true at = (omega arith, tt)
 marks false at = tt
 
 -- each restart is at or after the place where they begin
-restarts_above : (at : ℕ) (ps : List EncodedEntry) → AllByRecursion (λ r. at ≤ r) (restarts_from at ps)
+pub restarts_above : (at : ℕ) (ps : List EncodedEntry) → AllByRecursion (λ r. at ≤ r) (restarts_from at ps)
 restarts_above at [] = tt
 restarts_above at (p ∷ ps) =
     AllByRecursion-append (λ r. at ≤ r) (cond p.is_restart (at ∷ []) []) (restarts_from (at + length (encoded_entry_bytes p)) ps) (marks p.is_restart at)
     (AllByRecursion-weaker (λ r. at + length (encoded_entry_bytes p) ≤ r) (λ r. at ≤ r) (λ r h. omega arith) _ (restarts_above (at + length (encoded_entry_bytes p)) ps))
-
-restarts_from-push : (at : ℕ) (ps : List EncodedEntry) (p : EncodedEntry) → restarts_from at (ps ++ p ∷ []) ≡ restarts_from at ps ++ cond p.is_restart ((at + length (flat_map encoded_entry_bytes ps)) ∷ []) []
-restarts_from-push at [] p = append-nil (cond p.is_restart (at ∷ []) []) ∙ ap (λ (n : ℕ). cond p.is_restart (n ∷ []) []) (omega arith)
-restarts_from-push at (x ∷ ps) p =
-    let n : (at + length (encoded_entry_bytes x)) + length (flat_map encoded_entry_bytes ps) ≡ at + length (flat_map encoded_entry_bytes (x ∷ ps)) = omega (arith, length-append (encoded_entry_bytes x) (flat_map encoded_entry_bytes ps)) in
-    ap (λ (t : List ℕ). cond x.is_restart (at ∷ []) [] ++ t) (restarts_from-push (at + length (encoded_entry_bytes x)) ps p ∙ ap (λ (m : ℕ). restarts_from (at + length (encoded_entry_bytes x)) ps ++ cond p.is_restart (m ∷ []) []) n)
-    ∙ sym (append_assoc (cond x.is_restart (at ∷ []) []) (restarts_from (at + length (encoded_entry_bytes x)) ps) (cond p.is_restart ((at + length (flat_map encoded_entry_bytes (x ∷ ps))) ∷ []) []))
 
 -- ---- what was read
 

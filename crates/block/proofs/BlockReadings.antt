@@ -1,8 +1,8 @@
 -- Bytes read as a list of entries exactly if they are a block of it.
-use Rattle.std.proofs.Common.{◌≡◌, ℕ, zero, suc, ◌+◌, ◌*◌, ◌^◌, ◌<◌, ◌≤◌, Bool, true, false, cond, not, ◌&&◌, ◌||◌, nat_le, nat_lt, nat_eq, List, [], ◌∷◌, ◌++◌, length, take, drop, Result, Ok, Err, refl, sym, ap, subst, ◌∙◌, arith}
+use Rattle.std.proofs.Common.{◌≡◌, ℕ, zero, suc, ◌+◌, ◌*◌, ◌^◌, ◌<◌, ◌≤◌, Bool, true, false, cond, not, ◌&&◌, ◌||◌, nat_le, nat_lt, nat_eq, List, [], ◌∷◌, ◌++◌, length, take, drop, Result, Ok, Err, refl, sym, ap, ◌∙◌, arith}
 use Rattle.std.specs.List.{flat_map, AllByRecursion, list_all}
 use Rattle.std.specs.Str.{bytes_eq}
-use Rattle.std.proofs.lemmas.Bool.{eqb-true, eq-eqb, ne_eqb, ltb-true, lt-ltb, leb-true, le-leb}
+use Rattle.std.proofs.lemmas.Bool.{eqb-true, eq-eqb, ne_eqb, ltb-true, lt-ltb, leb-true, le-leb, and_parts, and_from}
 use Rattle.std.proofs.lemmas.Slice.Eq.{bytes_eq-Decides}
 use Rattle.std.proofs.lemmas.List.{take_at, drop_at}
 use Rattle.byteorder.specs.Endian.{little_bytes}
@@ -13,21 +13,14 @@ use Rattle.block.specs.EncodedEntry.{Entry, EncodedEntry, encoded_entry_bytes, e
 use Rattle.block.specs.BlockParts.{HasBlockParts}
 use Rattle.block.specs.BlockView.{numbers_in}
 use Rattle.block.proofs.Pieces.{Widths-of, piece_at_front, front_entry_at-nil, length-piece_bytes_pos, length-pieces}
-use Rattle.block.proofs.Restarts.{words, length-words, front_word}
-use Rattle.block.proofs.Areas.{AllByRecursion-append, AllByRecursion-weaker, marks}
+use Rattle.block.proofs.Restarts.{words, length-words}
 use Rattle.block.proofs.Splits.{split_count}
+use Rattle.block.proofs.Areas.{restarts_above}
+use Rattle.block.proofs.Places.{numbers_in-words}
+use Rattle.block.proofs.Checks.{some_restart}
 use Rattle.block.specs.BlockReading.{restart_count, area_len, restarts_in, is_next, restarts_from_place, encoded_entries_in, encoded_entries_of, is_encoded_entry_after, are_encoded_entries, begins_with_restart, are_of_block, block_reading, ReadsBlocks}
 
 -- ---- the tests are those of a block
-
-pub both : (a b : Bool) → (a && b) ≡ true → (a ≡ true) × (b ≡ true)
-both true b e = (refl, e)
-both false b e = absurd cc
-
-pub join : (a b : Bool) → a ≡ true → b ≡ true → (a && b) ≡ true
-join true true e f = refl
-join true false e f = absurd cc
-join false b e f = absurd cc
 
 restart_of : (b : Bool) (x : ℕ) → (not b || nat_eq x 0) ≡ true → b ≡ true → x ≡ 0
 restart_of true x e f = eqb-true x 0 e
@@ -39,10 +32,10 @@ of_restart false x h = refl
 
 piece_is : (before : ℕ) (p : EncodedEntry) → is_encoded_entry_after before p ≡ true → IsEncodedEntryAfter before p
 piece_is before p h =
-    let a = both _ (nat_lt (length p.value) (2 ^ 32)) h in
-    let b = both _ (nat_lt (length p.unshared) (2 ^ 32)) a.0 in
-    let c = both _ (nat_lt p.shared (2 ^ 32)) b.0 in
-    let d = both (nat_le p.shared before) (not p.is_restart || nat_eq p.shared 0) c.0 in
+    let a = and_parts _ (nat_lt (length p.value) (2 ^ 32)) h in
+    let b = and_parts _ (nat_lt (length p.unshared) (2 ^ 32)) a.0 in
+    let c = and_parts _ (nat_lt p.shared (2 ^ 32)) b.0 in
+    let d = and_parts (nat_le p.shared before) (not p.is_restart || nat_eq p.shared 0) c.0 in
     record {
       shared = leb-true p.shared before d.0;
       restart = restart_of p.is_restart p.shared d.1;
@@ -53,10 +46,10 @@ piece_is before p h =
 
 is_piece : (before : ℕ) (p : EncodedEntry) → IsEncodedEntryAfter before p → is_encoded_entry_after before p ≡ true
 is_piece before p h =
-    join _ (nat_lt (length p.value) (2 ^ 32))
-    (join _ (nat_lt (length p.unshared) (2 ^ 32))
-    (join _ (nat_lt p.shared (2 ^ 32))
-    (join (nat_le p.shared before) (not p.is_restart || nat_eq p.shared 0) (le-leb p.shared before h.shared) (of_restart p.is_restart p.shared h.restart))
+    and_from _ (nat_lt (length p.value) (2 ^ 32))
+    (and_from _ (nat_lt (length p.unshared) (2 ^ 32))
+    (and_from _ (nat_lt p.shared (2 ^ 32))
+    (and_from (nat_le p.shared before) (not p.is_restart || nat_eq p.shared 0) (le-leb p.shared before h.shared) (of_restart p.is_restart p.shared h.restart))
     (lt-ltb p.shared (2 ^ 32) h.shared_fits))
     (lt-ltb (length p.unshared) (2 ^ 32) h.unshared_fits))
     (lt-ltb (length p.value) (2 ^ 32) h.value_fits)
@@ -64,12 +57,12 @@ is_piece before p h =
 pieces_are : (before : ℕ) (ps : List EncodedEntry) → are_encoded_entries before ps ≡ true → AreEncodedEntries before ps
 pieces_are before [] h = tt
 pieces_are before (p ∷ ps) h =
-    let a = both (is_encoded_entry_after before p) (are_encoded_entries (p.shared + length p.unshared) ps) h in
+    let a = and_parts (is_encoded_entry_after before p) (are_encoded_entries (p.shared + length p.unshared) ps) h in
     (piece_is before p a.0, pieces_are (p.shared + length p.unshared) ps a.1)
 
 all_pieces : (before : ℕ) (ps : List EncodedEntry) → AreEncodedEntries before ps → are_encoded_entries before ps ≡ true
 all_pieces before [] h = refl
-all_pieces before (p ∷ ps) h = join (is_encoded_entry_after before p) (are_encoded_entries (p.shared + length p.unshared) ps) (is_piece before p h.0) (all_pieces (p.shared + length p.unshared) ps h.1)
+all_pieces before (p ∷ ps) h = and_from (is_encoded_entry_after before p) (are_encoded_entries (p.shared + length p.unshared) ps) (is_piece before p h.0) (all_pieces (p.shared + length p.unshared) ps h.1)
 
 begins_is : (ps : List EncodedEntry) → begins_with_restart ps ≡ true → BeginsWithRestart ps
 begins_is [] h = tt
@@ -82,31 +75,25 @@ is_begun (p ∷ ps) h = h
 below_is : (limit : ℕ) (xs : List ℕ) → list_all (λ x. nat_lt x limit) xs ≡ true → AllByRecursion (λ x. x < limit) xs
 below_is limit [] h = tt
 below_is limit (x ∷ xs) h =
-    let a = both (nat_lt x limit) (list_all (λ x. nat_lt x limit) xs) h in
+    let a = and_parts (nat_lt x limit) (list_all (λ x. nat_lt x limit) xs) h in
     (ltb-true x limit a.0, below_is limit xs a.1)
 
 all_below : (limit : ℕ) (xs : List ℕ) → AllByRecursion (λ x. x < limit) xs → list_all (λ x. nat_lt x limit) xs ≡ true
 all_below limit [] h = refl
-all_below limit (x ∷ xs) h = join (nat_lt x limit) (list_all (λ x. nat_lt x limit) xs) (lt-ltb x limit h.0) (all_below limit xs h.1)
+all_below limit (x ∷ xs) h = and_from (nat_lt x limit) (list_all (λ x. nat_lt x limit) xs) (lt-ltb x limit h.0) (all_below limit xs h.1)
 
 of_block : (ps : List EncodedEntry) → are_of_block ps ≡ true → AreOfBlock ps
 of_block ps h =
-    let a = both (are_encoded_entries 0 ps && begins_with_restart ps) (list_all (λ x. nat_lt x (2 ^ 32)) (length (restarts_of ps) ∷ restarts_of ps)) h in
-    let b = both (are_encoded_entries 0 ps) (begins_with_restart ps) a.0 in
+    let a = and_parts (are_encoded_entries 0 ps && begins_with_restart ps) (list_all (λ x. nat_lt x (2 ^ 32)) (length (restarts_of ps) ∷ restarts_of ps)) h in
+    let b = and_parts (are_encoded_entries 0 ps) (begins_with_restart ps) a.0 in
     record { pieces = pieces_are 0 ps b.0; first = begins_is ps b.1; restarts = below_is (2 ^ 32) (length (restarts_of ps) ∷ restarts_of ps) a.1 }
 
 is_of_block : (ps : List EncodedEntry) → AreOfBlock ps → are_of_block ps ≡ true
 is_of_block ps h =
-    join (are_encoded_entries 0 ps && begins_with_restart ps) (list_all (λ x. nat_lt x (2 ^ 32)) (length (restarts_of ps) ∷ restarts_of ps))
-    (join (are_encoded_entries 0 ps) (begins_with_restart ps) (all_pieces 0 ps h.pieces) (is_begun ps h.first)) (all_below (2 ^ 32) (length (restarts_of ps) ∷ restarts_of ps) h.restarts)
+    and_from (are_encoded_entries 0 ps && begins_with_restart ps) (list_all (λ x. nat_lt x (2 ^ 32)) (length (restarts_of ps) ∷ restarts_of ps))
+    (and_from (are_encoded_entries 0 ps) (begins_with_restart ps) (all_pieces 0 ps h.pieces) (is_begun ps h.first)) (all_below (2 ^ 32) (length (restarts_of ps) ∷ restarts_of ps) h.restarts)
 
 -- ---- the pieces of a block are read again
-
-restarts_above : (at : ℕ) (ps : List EncodedEntry) → AllByRecursion (λ r. at ≤ r) (restarts_from at ps)
-restarts_above at [] = tt
-restarts_above at (p ∷ ps) =
-    AllByRecursion-append (λ r. at ≤ r) (cond p.is_restart (at ∷ []) []) (restarts_from (at + length (encoded_entry_bytes p)) ps) (marks p.is_restart at)
-    (AllByRecursion-weaker (λ r. at + length (encoded_entry_bytes p) ≤ r) (λ r. at ≤ r) (λ r h. omega arith) _ (restarts_above (at + length (encoded_entry_bytes p)) ps))
 
 -- restarts that lie after an offset don't begin with it
 past : (at from : ℕ) (rs : List ℕ) → at < from → AllByRecursion (λ r. from ≤ r) rs → is_next rs at ≡ false
@@ -128,14 +115,6 @@ pieces_in-spelt (suc n) before at (p ∷ ps) h le =
     let mark = next_mark p.is_restart at (at + length (encoded_entry_bytes p)) others (omega (arith, length-piece_bytes_pos p)) (restarts_above (at + length (encoded_entry_bytes p)) ps) in
     rw (piece_at_front (encoded_entry_bytes p ++ rest) p rest (Widths-of before p h.0) refl, mark.1, mark.0)
     (ap (λ (qs : List EncodedEntry). p ∷ qs) (pieces_in-spelt n (p.shared + length p.unshared) (at + length (encoded_entry_bytes p)) ps h.1 (omega arith)))
-
-numbers_in-words : (rs : List ℕ) → AllByRecursion (λ r. r < 2 ^ 32) rs → numbers_in (words rs) ≡ rs
-numbers_in-words [] h = refl
-numbers_in-words (r ∷ rs) h = ap (λ (n : ℕ). n ∷ numbers_in (words rs)) (front_word r [] h.0) ∙ ap (λ (t : List ℕ). r ∷ t) (numbers_in-words rs h.1)
-
-some_restart : (ps : List EncodedEntry) → BeginsWithRestart ps → 0 < length (restarts_of ps)
-some_restart [] h = omega arith
-some_restart (p ∷ ps) h = subst (λ (b : Bool). 0 < length (cond b (0 ∷ []) [] ++ restarts_from (0 + length (encoded_entry_bytes p)) ps)) (sym h) (omega arith)
 
 pieces_spelt : (ps : List EncodedEntry) → AreOfBlock ps → encoded_entries_in (length (flat_map encoded_entry_bytes ps)) 0 (restarts_of ps) (flat_map encoded_entry_bytes ps) ≡ ps
 pieces_spelt [] h = refl

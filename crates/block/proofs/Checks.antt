@@ -13,7 +13,7 @@ use Rattle.block.proofs.Places.{places_of_area}
 use Rattle.block.specs.BlockView.{PointsAt}
 
 -- there is a restart
-some_restart : (ps : List EncodedEntry) → BeginsWithRestart ps → 0 < length (restarts_of ps)
+pub some_restart : (ps : List EncodedEntry) → BeginsWithRestart ps → 0 < length (restarts_of ps)
 some_restart [] h = omega arith
 some_restart (p ∷ ps) h = subst (λ (b : Bool). 0 < length (cond b (0 ∷ []) [] ++ restarts_from (0 + length (encoded_entry_bytes p)) ps)) (sym h) (omega arith)
 

@@ -115,7 +115,7 @@ front_entry_at-piece_bytes p rest h =
     ∙ rw (length_at-varint p.shared _ h.shared, length_at-varint (length p.unshared) _ h.unshared, length_at-varint (length p.value) _ h.value, fits, ← drop-drop (length p.value) (length p.unshared) (p.unshared ++ (p.value ++ rest)), take_at p.unshared (p.value ++ rest) (length p.unshared) refl, drop_at p.unshared (p.value ++ rest) (length p.unshared) refl, take_at p.value rest (length p.value) refl, drop_at p.value rest (length p.value) refl) refl
 
 -- the value of a step that did not fail
-and_then_some : {A B : Type 0} (o : Option A) (f : A → Option B) (y : B) → and_then o f ≡ Some y → (x : A) × (o ≡ Some x) × (f x ≡ Some y)
+pub and_then_some : {A B : Type 0} (o : Option A) (f : A → Option B) (y : B) → and_then o f ≡ Some y → (x : A) × (o ≡ Some x) × (f x ≡ Some y)
 and_then_some None f y e = absurd cc
 and_then_some (Some x) f y e = (x, refl, e)
 

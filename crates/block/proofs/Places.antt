@@ -12,12 +12,13 @@ use Rattle.block.specs.EntriesOfBytes.{entries_of_encoded, AreEncodedEntriesAfte
 use Rattle.block.specs.BlockView.{restart_places_from, places_of, numbers_in}
 use Rattle.block.proofs.Pieces.{Widths, AreWide, AreWide-of, entries_of_encoded-pieces}
 use Rattle.block.proofs.Restarts.{words, length-words, front_word}
-use Rattle.block.proofs.Areas.{AllByRecursion-append, AllByRecursion-weaker, marks}
+use Rattle.block.proofs.Written.{AllByRecursion-append}
+use Rattle.block.proofs.Areas.{AllByRecursion-weaker, marks}
 use Rattle.block.proofs.Walks.{length-key_after, entries_of_area}
 
 -- ---- numbers of four bytes
 
-numbers_in-words : (rs : List ℕ) → AllByRecursion (λ r. r < 2 ^ 32) rs → numbers_in (words rs) ≡ rs
+pub numbers_in-words : (rs : List ℕ) → AllByRecursion (λ r. r < 2 ^ 32) rs → numbers_in (words rs) ≡ rs
 numbers_in-words [] h = refl
 numbers_in-words (r ∷ rs) h = ap (λ (n : ℕ). n ∷ numbers_in (words rs)) (front_word r [] h.0) ∙ ap (λ (t : List ℕ). r ∷ t) (numbers_in-words rs h.1)
 

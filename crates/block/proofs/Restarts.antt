@@ -27,9 +27,6 @@ same_word x y a b lx ly e =
 pub begins_drop : (pending : List ℕ) (at : ℕ) → BeginsWith pending at → pending ≡ little_bytes 4 at ++ drop 4 pending
 begins_drop pending at b = b.1 ∙ ap (λ (t : List ℕ). little_bytes 4 at ++ t) (sym (ap (drop 4) b.1))
 
-pub begins_long : (pending : List ℕ) (at : ℕ) → BeginsWith pending at → 4 ≤ length pending
-begins_long pending at b = omega (arith, ap length b.1)
-
 -- the number at the front is this one exactly if the bytes begin with it
 pub begins_iff : (pending : List ℕ) (at : ℕ) → IsBytes pending → 4 ≤ length pending → (little_number 4 pending ≡ at → (at < 2 ^ 32) × BeginsWith pending at) × ((at < 2 ^ 32) × BeginsWith pending at → little_number 4 pending ≡ at)
 begins_iff pending at fits long = (

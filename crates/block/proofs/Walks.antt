@@ -57,10 +57,6 @@ none_behind before rest b h = of_pieces b.0 b.1 b.2
         let no : entries_after before (p ∷ ps) ≡ [] = sym (behind_of before rest (p ∷ ps) pieces e) ∙ h in
         absurd cc
 
--- the pieces of a block's area
-pub behind_area : (area restarts : List ℕ) → IsArea area restarts → AreEncodedEntriesAfter [] area
-behind_area area restarts h = (h.0, h.1.pieces, h.2)
-
 pub entries_of_area : (area restarts : List ℕ) (h : IsArea area restarts) → entries_of_encoded [] area ≡ entries_after [] h.0
 entries_of_area area restarts h = behind_of [] area h.0 h.1.pieces h.2
 

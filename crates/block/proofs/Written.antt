@@ -1,9 +1,8 @@
 -- The pieces that are written of entries: they give the entries back, they are lawful, and one more entry adds one piece.
-use Rattle.std.proofs.Common.{◌≡◌, ℕ, zero, suc, ◌+◌, ◌*◌, ◌%◌, ◌^◌, ◌<◌, ◌≤◌, Bool, true, false, cond, eqb, nat_eq, List, [], ◌∷◌, ◌++◌, length, get_or, min, take, drop, refl, sym, ap, subst, ◌∙◌, append_assoc, add-zero, lit<, arith}
+use Rattle.std.proofs.Common.{◌≡◌, ℕ, zero, suc, ◌+◌, ◌*◌, ◌%◌, ◌^◌, ◌<◌, ◌≤◌, Bool, true, false, cond, eqb, List, [], ◌∷◌, ◌++◌, length, get_or, take, drop, refl, sym, ap, subst, ◌∙◌, append_assoc, add-zero, lit<, arith}
 use Rattle.std.specs.List.{flat_map, common_prefix_len, AllByRecursion}
 use Rattle.std.specs.Simd.{first_chunks}
-use Rattle.std.specs.Cmp.Lexicographic.{pointwise, same_text}
-use Rattle.std.proofs.lemmas.Bool.{eqb-true, eq-eqb}
+use Rattle.std.proofs.lemmas.Bool.{eqb-true}
 use Rattle.std.proofs.lemmas.List.{take-append-drop, length-append, length-drop, drop-drop, append-nil}
 use Rattle.std.proofs.lemmas.List.Sums.{common_prefix_len-le}
 use Rattle.std.proofs.Math.Nat.{zero-mod}
@@ -141,7 +140,7 @@ one_restart : (restart : Bool) (at : ℕ) → length (cond restart (at ∷ []) [
 one_restart true at = omega arith
 one_restart false at = omega arith
 
-AllByRecursion-append : (P : ℕ → Type 0) (xs ys : List ℕ) → AllByRecursion P xs → AllByRecursion P ys → AllByRecursion P (xs ++ ys)
+pub AllByRecursion-append : {X : Type 0} (P : X → Type 0) (xs ys : List X) → AllByRecursion P xs → AllByRecursion P ys → AllByRecursion P (xs ++ ys)
 AllByRecursion-append P [] ys h k = k
 AllByRecursion-append P (x ∷ xs) ys h k = (h.0, AllByRecursion-append P xs ys h.1 k)
 
@@ -204,16 +203,6 @@ block_reads_back r q fits = (encoded_entries_from r 0 [] q, AreOfBlock-pieces_fr
 
 -- ---- a walk along two keys
 
--- beginnings that are the same are shared
-common_same : (n : ℕ) (xs ys : List ℕ) → n ≤ length xs → n ≤ length ys → take n xs ≡ take n ys → common xs ys ≡ n + common (drop n xs) (drop n ys)
-common_same zero xs ys le_xs le_ys same = omega arith
-common_same (suc n) [] ys le_xs le_ys same = absurd (omega arith)
-common_same (suc n) (x ∷ xs) [] le_xs le_ys same = absurd (omega arith)
-common_same (suc n) (x ∷ xs) (y ∷ ys) le_xs le_ys same =
-    let heads : x ≡ y = cc in
-    let rest : take n xs ≡ take n ys = cc in
-    rw (eq-eqb x y heads) (omega (arith, common_same n xs ys (omega arith) (omega arith) rest))
-
 -- one of the words of eight bytes
 pub word_at : (count i : ℕ) (xs : List ℕ) → i < count → get_or (first_chunks 8 count xs) i [] ≡ take 8 (drop (8 * i) xs)
 word_at zero i xs lt = absurd (omega arith)
@@ -221,17 +210,3 @@ word_at (suc count) zero xs lt = refl
 word_at (suc count) (suc i) xs lt =
     let place : 8 * suc i ≡ 8 + 8 * i = omega arith in
     rw place (word_at count i (drop 8 xs) (omega arith) ∙ ap (take 8) (drop-drop (8 * i) 8 xs))
-
--- the walk goes on after bytes that are the same
-pub common_goes_on : (xs ys : List ℕ) (at n to : ℕ) → to ≡ at + n → to ≤ length xs → to ≤ length ys → true ≡ pointwise nat_eq (take n (drop at xs)) (take n (drop at ys)) → common xs ys ≡ at + common (drop at xs) (drop at ys)
-    → common xs ys ≡ to + common (drop to xs) (drop to ys)
-common_goes_on xs ys at n to to_is le_xs le_ys told so_far =
-    let same : take n (drop at xs) ≡ take n (drop at ys) = same_text _ _ told in
-    let rest = common_same n (drop at xs) (drop at ys) (omega (arith, length-drop at xs)) (omega (arith, length-drop at ys)) same in
-    rw (to_is, ← drop-drop n at xs, ← drop-drop n at ys) (omega (arith, so_far, rest))
-
--- the walk has come to the end of one of them
-pub common_all : (xs ys : List ℕ) (i : ℕ) → min (length xs) (length ys) ≤ i → common xs ys ≡ i + common (drop i xs) (drop i ys) → common xs ys ≡ i
-common_all xs ys i le so_far =
-    let rest = common_prefix_len-le eqb (drop i xs) (drop i ys) in
-    omega (arith, so_far, rest.0, rest.1, length-drop i xs, length-drop i ys)

@@ -1,14 +1,12 @@
 -- What a run answers, if its labour states the answers of all jobs as one list.
 use Rattle.std.proofs.Common.{◌≡◌, ◌≢◌, ◌⊎◌, ℕ, zero, suc, ◌<◌, ◌≤◌, inl, inr, List, [], ◌∷◌, map, length, get_or, Some, Result, Ok, Err, IfOk, IfErr, refl, ap, ◌∙◌, arith, slice_get}
+use Rattle.std.proofs.lemmas.Option.{same_Some}
 use Rattle.coding.specs.declared.fault.Fault.{Fault}
 use Rattle.coding.specs.Answers.{◌>>=◌, EqualOrMemory, FailsOrMemory}
 use Rattle.coding.proofs.Refusals.{unless_from}
 use Rattle.board.specs.declared.pool.RunFault.{RunFault}
 use Rattle.board.specs.RunAnswer.{IsFaultOf, IsResult, AreResults, IsRefused, fault_of_run}
 use Rattle.board.specs.CollectedResults.{collected_results, fault_in, refusal_at, HasValue}
-
-some_is : {A : Type 0} (a b : A) → Some a ≡ Some b → a ≡ b
-some_is a b e = cc
 
 module _ {B O : Type 0} (view : O → B) where
   each_collected : (answers : List (Result B Fault)) (outs : List O) → length outs ≡ length answers
@@ -17,7 +15,7 @@ module _ {B O : Type 0} (view : O → B) where
   each_collected [] (out ∷ outs) len each = absurd (omega arith)
   each_collected (answer ∷ answers) [] len each = absurd (omega arith)
   each_collected (answer ∷ answers) (out ∷ outs) len each =
-      let here : answer ≡ Ok (view out) = some_is answer (Ok (view out)) (each zero out (omega arith)) in
+      let here : answer ≡ Ok (view out) = same_Some answer (Ok (view out)) (each zero out (omega arith)) in
       let rest = each_collected answers outs (omega arith) (λ i d lt. each (suc i) d (omega arith)) in
       ap (λ (a : Result B Fault). a >>= λ b. collected_results answers >>= λ bs. Ok (b ∷ bs)) here ∙ ap (λ (r : Result (List B) Fault). r >>= λ bs. Ok (view out ∷ bs)) rest
 
@@ -28,7 +26,7 @@ module _ {B O : Type 0} (view : O → B) where
 
 first_by : {B : Type 0} (answer : Result B Fault) (rest : List (Result B Fault)) (fault : Fault) → fault_in (Some answer) ≡ Some fault → collected_results (answer ∷ rest) ≡ Err fault
 first_by (Ok b) rest fault e = cc
-first_by (Err f) rest fault e = ap Err (some_is f fault e)
+first_by (Err f) rest fault e = ap Err (same_Some f fault e)
 
 -- before the least refusal each answer has a value
 first_refused : {B : Type 0} (answers : List (Result B Fault)) (job : ℕ) (fault : Fault) → ((i : ℕ) → i < job → (b : B) × HasValue answers i b) → refusal_at answers job ≡ Some fault → collected_results answers ≡ Err fault
@@ -36,7 +34,7 @@ first_refused [] job fault before e = cc
 first_refused (answer ∷ answers) zero fault before e = first_by answer answers fault e
 first_refused {B} (answer ∷ answers) (suc job) fault before e =
     let v = before zero (omega arith) in
-    let here : answer ≡ Ok v.0 = some_is answer (Ok v.0) v.1 in
+    let here : answer ≡ Ok v.0 = same_Some answer (Ok v.0) v.1 in
     let rest = first_refused answers job fault (λ i lt. before (suc i) (omega arith)) e in
     ap (λ (a : Result B Fault). a >>= λ b. collected_results answers >>= λ bs. Ok (b ∷ bs)) here ∙ ap (λ (r : Result (List B) Fault). r >>= λ bs. Ok (v.0 ∷ bs)) rest
 

@@ -1,5 +1,5 @@
 -- What a seat spends is what it drew, and the counts of it stay small.
-use Rattle.std.proofs.Common.{◌≡◌, inl, inr, ℕ, zero, suc, ◌+◌, ◌<◌, ◌≤◌, ◌^◌, List, [], ◌∷◌, ◌++◌, length, refl, sym, ap, ◌∙◌, subst, arith, length-append, Bool, cond, lt-ltb, le-ltb, Option, None, Some, IfNone}
+use Rattle.std.proofs.Common.{◌≡◌, inl, inr, ℕ, zero, suc, ◌+◌, ◌<◌, ◌≤◌, ◌^◌, List, [], ◌∷◌, ◌++◌, length, refl, sym, ap, ◌∙◌, subst, arith, length-append, Bool, cond, lt-ltb, Option, None, Some, IfNone}
 use native.Mathlib.Decide.{dec_le}
 use Rattle.atomic_table.specs.Table.{Me}
 use Rattle.atomic_table.specs.Seated.{TableId}
@@ -102,9 +102,6 @@ module _ (v : SeatView) (done : List ℕ) (d f s : ℕ) (h : IsCounted v done d 
     counts = (h.counts.0, (let l = length-snoc v.failed x in let c = h.counts.1 in omega arith), h.counts.2);
   }
 
-  pub counted_look : (u : SeatView) (y : ℕ) → u ≡ has_looked v y → IsCounted u done d f s
-  counted_look u y is = subst (λ (z : SeatView). IsCounted z done d f s) (sym is) record { within = h.within; once = h.once; spent = h.spent; counts = h.counts }
-
   pub counted_skip : (u : SeatView) (y x : ℕ) → u ≡ has_skipped (has_looked v y) x → spent_of x < times x v.drawn → IsCounted u done d f (s + 1)
   counted_skip u y x is unspent = subst (λ (z : SeatView). IsCounted z done d f (s + 1)) (sym is) record {
     within = h.within;
@@ -149,9 +146,6 @@ still_seated number passed jobs seats me me' h slots members j w empty = record 
 pub look_above : (v : SeatView) (x found : ℕ) → found < x → has_looked_for v x found ≡ has_skipped (has_looked v found) x
 look_above v x found lt = ap (λ (b : Bool). cond b (has_skipped (has_looked v found) x) (has_looked v found)) (lt-ltb found x lt)
 
-pub look_below : (v : SeatView) (x found : ℕ) → x ≤ found → has_looked_for v x found ≡ has_looked v found
-look_below v x found le = ap (λ (b : Bool). cond b (has_skipped (has_looked v found) x) (has_looked v found)) (le-ltb found x le)
-
 -- a list in which nothing stands
 pub nothing : (xs : List ℕ) → ((x : ℕ) → times x xs ≡ 0) → xs ≡ []
 nothing [] each = refl
@@ -189,7 +183,3 @@ few_drawn v done d f s h = let l = spent_few v.drawn v.drawn [] [] v.jobs h.with
 pub none_found : (o : Option ℕ) (v : SeatView) (found : ℕ) → fault_word o ≡ found → IsLeastFound v found → v.jobs ≤ 2 ^ 40 → IfNone o ((v.failed ≡ []) × ((x : ℕ) → 0 < times x v.looked → x ≡ no_fault))
 none_found None v found is h small = (none_failed v found h (sym is) small, none_looked v found h (sym is) small)
 none_found (Some y) v found is h small = tt
-
--- what is found is no greater than what the seat failed or looked at
-pub found_least : (v : SeatView) (found : ℕ) → IsLeastFound v found → (x : ℕ) → 0 < times x v.failed + times x v.looked → found ≤ x
-found_least v found h x any = elim (dec_le 1 (times x v.failed)) [ yes one ↦ (h.failed x one).1 | no none ↦ (h.looked x (omega arith)).0 ]

@@ -2,18 +2,13 @@
 use Rattle.std.proofs.Common.{◌≡◌, inl, inr, ℕ, ◌+◌, ◌<◌, List, [], ◌∷◌, ◌++◌, map, length, set, get_or, Option, None, Some, sym, ap, ◌∙◌, subst, arith, append_assoc, get_or-set_same, get_or-set_other}
 use Rattle.std.proofs.lemmas.List.{get_or_append_left, get_or_default}
 use Rattle.std.proofs.Math.Seq.{get_or-append_seam}
+use Rattle.std.proofs.lemmas.Option.{same_Some, none-some}
 use native.Mathlib.Decide.{ℕ_discrete, dec_le}
 use Rattle.coding.specs.declared.fault.Fault.{Fault}
 use Rattle.board.specs.Shares.{times}
 use Rattle.board.specs.RunAnswer.{IsResult}
 use Rattle.board.specs.WorkerResult.{IsPlaced, HasPlace}
 use Rattle.board.proofs.Sums.{same_tells}
-
-some_is : {A : Type 0} (a b : A) → Some a ≡ Some b → a ≡ b
-some_is a b e = cc
-
-pub none_is_not : {A : Type 0} (a : A) → None ≡ Some a → ⊥
-none_is_not a e = cc
 
 module _ {O : Type 0} (places : List (Option O)) (n : ℕ) (out : O) (lt : n < length places) where
   pub has_here : (i : ℕ) → i ≡ n → HasPlace (set places n (Some out)) i
@@ -29,7 +24,7 @@ module _ {O : Type 0} (places : List (Option O)) (n : ℕ) (out : O) (lt : n < l
   placed_set refusal gives h is i o e = elim (ℕ_discrete i n) [
     | yes same ↦
         let now : Some out ≡ Some o = sym (ap (λ (j : ℕ). get_or (set places n (Some out)) j None) same ∙ get_or-set_same places n (Some out) None lt) ∙ e in
-        subst (IsResult refusal gives) (λ k. (sym same k, some_is out o now k)) is
+        subst (IsResult refusal gives) (λ k. (sym same k, same_Some out o now k)) is
     | no apart ↦ h i o (sym (get_or-set_other places n i (Some out) None apart) ∙ e)
   ]
 
@@ -41,7 +36,7 @@ one_popped all items rest rs x a b = a ∙ ap (λ l. l ++ rs) b ∙ append_assoc
 
 -- a place that has a result is not read as empty
 pub not_empty : {O : Type 0} (places was : List (Option O)) (i : ℕ) (read : Option O) → i < length places → get_or places i None ≡ get_or was i None → HasPlace was i → read ≡ get_or places i read → None ≡ read → ⊥
-not_empty places was i read lt same has is none = none_is_not has.0 (none ∙ is ∙ get_or_default places i read None lt ∙ same ∙ has.1)
+not_empty places was i read lt same has is none = none-some has.0 (none ∙ is ∙ get_or_default places i read None lt ∙ same ∙ has.1)
 
 pub read_is : {O : Type 0} (places was : List (Option O)) (i : ℕ) (read : Option O) (out : O) → i < length places → get_or places i None ≡ get_or was i None → read ≡ get_or places i read → Some out ≡ read → get_or was i None ≡ Some out
 read_is places was i read out lt same is some = sym same ∙ sym (get_or_default places i read None lt) ∙ sym is ∙ sym some

@@ -1,6 +1,7 @@
 -- What the workers leave, put together.
 use Rattle.std.proofs.Common.{◌≡◌, ℕ, zero, suc, ◌+◌, ◌<◌, ◌≤◌, List, [], ◌∷◌, ◌++◌, map, length, get_or, All, Option, None, Some, replicate, refl, sym, ap, ◌∙◌, subst, arith, append_assoc, append-nil, length-append}
 use Rattle.std.proofs.lemmas.List.Elements.{All-append, All-nil}
+use Rattle.std.proofs.lemmas.Option.{none-some}
 use Rattle.std.specs.List.{flat_map}
 use native.Mathlib.Decide.{dec_le}
 use Rattle.coding.specs.declared.fault.Fault.{Fault}
@@ -13,7 +14,6 @@ use Rattle.board.specs.Seats.{IsUnused}
 use Rattle.board.specs.WorkerResult.{IsLeastFailed, IsShift, IsFiled, IsPlaced, HasPlace}
 use Rattle.board.proofs.Sums.{times-append, same_one}
 use Rattle.board.proofs.Workings.{all_one}
-use Rattle.board.proofs.ResultPlaces.{none_is_not}
 use Rattle.board.proofs.Closings.{all_front, all_last}
 
 pub flat_map-snoc : (f : Progress → List ℕ) (ps : List Progress) (p : Progress) → flat_map f (ps ++ p ∷ []) ≡ flat_map f ps ++ f p
@@ -36,7 +36,7 @@ module _ {O : Type 0} (refusal : ℕ → Option Fault) (gives : ℕ → O → Ty
     spent = All-nil HasSpentAll;
     empty = λ any. absurd (omega arith);
     long = long;
-    placed = λ i out e. absurd (none_is_not out (sym (ap (λ l. get_or l i None) is ∙ all_none of.jobs i) ∙ e));
+    placed = λ i out e. absurd (none-some out (sym (ap (λ l. get_or l i None) is ∙ all_none of.jobs i) ∙ e));
     done = λ i any. absurd (omega arith);
     least = refl;
   }
@@ -60,10 +60,6 @@ module _ {O : Type 0} (refusal : ℕ → Option Fault) (gives : ℕ → O → Ty
         ];
     least = subst (λ (l : List ℕ). IsLeastFailed refusal l refused') (sym (flat_map-snoc (λ p. p.failed) ps s.seat)) least;
   }
-
--- of two least jobs the lesser
-pub least_none : (refusal : ℕ → Option Fault) (xs ys : List ℕ) (other : Option (ℕ × Fault)) → xs ≡ [] → IsLeastFailed refusal ys other → IsLeastFailed refusal (xs ++ ys) other
-least_none refusal xs ys other none h = subst (λ (l : List ℕ). IsLeastFailed refusal (l ++ ys) other) (sym none) h
 
 pub least_left : (refusal : ℕ → Option Fault) (xs ys : List ℕ) (r : ℕ × Fault) → IsLeastFailed refusal xs (Some r) → ((x : ℕ) → 0 < times x ys → r.0 ≤ x) → IsLeastFailed refusal (xs ++ ys) (Some r)
 least_left refusal xs ys r h less = (

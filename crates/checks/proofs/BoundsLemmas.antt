@@ -1,22 +1,20 @@
 -- What the bounds of tables tell, and tables that need no walk.
-use Rattle.std.proofs.Common.{◌≡◌, ℕ, zero, suc, ◌+◌, ◌-◌, ◌<◌, ◌≤◌, min, max, Bool, true, false, ◌&&◌, ◌||◌, List, [], ◌∷◌, ◌++◌, length, get_or, take, drop, Option, Some, None, Result, Ok, Err, IfOk, refl, sym, ap, subst, ◌∙◌, inl, inr, append_assoc, append-nil, arith, eq-or-lt_of_le}
-use Rattle.std.specs.Prelude.{◌≢◌, ◌⊎◌, ◌↔◌, Contains, nat_eq, nat_lt, slice_get}
+use Rattle.std.proofs.Common.{◌≡◌, ℕ, zero, suc, ◌+◌, ◌-◌, ◌<◌, ◌≤◌, min, max, Bool, true, false, ◌||◌, List, [], ◌∷◌, ◌++◌, length, get_or, take, drop, Option, Some, None, Result, Ok, Err, IfOk, refl, sym, ap, subst, ◌∙◌, inl, inr, append_assoc, append-nil, arith, eq-or-lt_of_le}
+use Rattle.std.specs.Prelude.{◌≢◌, ◌⊎◌, ◌↔◌, Contains, nat_eq, nat_lt}
 use Rattle.std.specs.Cmp.{IsTotalOrder}
-use Rattle.std.specs.Option.{option_map}
-use Rattle.std.specs.Ordering.{is_lt}
 use Rattle.std.specs.Str.{bytes_eq}
 use Rattle.std.specs.declared.cmp.Ordering.{Ordering}
-use Rattle.std.specs.declared.cmp.Ordering.TheVariants.{Less, Equal, Greater}
+use Rattle.std.specs.declared.cmp.Ordering.TheVariants.{Less}
 use Rattle.std.proofs.lemmas.Bool.Decides.{Decides-eqb, Decides-ltb}
 use Rattle.std.proofs.lemmas.List.{drop_more, take_all, take_more, length-drop, nil_from_length}
 use Rattle.std.proofs.lemmas.List.Elements.{All-contains, Contains-get_or, Contains-append_left, Contains-append_right, Contains-append_cases}
-use Rattle.std.proofs.lemmas.Option.{none-some, same_Some}
 use Rattle.std.proofs.lemmas.Slice.Eq.{bytes_eq-Decides}
+use Rattle.std.proofs.lemmas.Bool.{or_cases, or_parts, and_from}
 use Rattle.ikey.specs.fault.Fault.{Fault}
 use Rattle.ikey.specs.Comparator.{IsExact}
 use Rattle.ikey.specs.Key.{IsInternalKey, user_of, sequence_of}
 use Rattle.ikey.specs.Order.{internal_cmp}
-use Rattle.ikey.proofs.Ordered.{internal_cmp-total}
+use Rattle.ikey.proofs.Ordered.{internal_cmp-total, is_lt-true}
 use Rattle.table.specs.EncodedEntry.{Entry}
 use Rattle.reads.specs.BuilderView.{last_key}
 use Rattle.reads.specs.MergedLists.{entries_of_lists}
@@ -25,7 +23,6 @@ use Rattle.table.specs.EntriesFrom.{EntriesRise}
 use Rattle.table.specs.EntryTests.{HaveInternalKeys, first_key}
 use Rattle.table.specs.Tallies.{is_twin, has_twins, least_sequence, greatest_sequence, tally_of}
 use Rattle.table.specs.declared.tally.Tally.{Tally}
-use Rattle.table.proofs.CheckedTables.{last_is as table_last}
 use Rattle.reads.specs.Lawful.{AreNewer}
 use Rattle.reads.specs.TableOrder.{IsNewer, IsNewerIn, AreFalling, AreFallingIn}
 use Rattle.reads.proofs.Members.{first_or_later, none_in, from_flat_map}
@@ -34,23 +31,6 @@ use Rattle.reads.proofs.Orders.{before_later, later_older, not_before_itself, us
 use Rattle.reads.proofs.Pairs.{Pairs, pairs_from, pairs_to, pairs_append, pairs_left, pairs_right, pairs_across}
 use Rattle.reads.proofs.Sought.{above_first}
 use Rattle.checks.specs.TableBounds.{AreCheckedEntries, BoundsTell, FallAlike, IsApartFromOthers, bounds_tell_apart, are_below}
-
-or_parts : (a b : Bool) → (a || b) ≡ true → (a ≡ true) ⊎ (b ≡ true)
-or_parts true b h = inl refl
-or_parts false b h = inr h
-
-both_false : (a b : Bool) → (a || b) ≡ false → (a ≡ false) × (b ≡ false)
-both_false true b h = absurd cc
-both_false false b h = (refl, h)
-
-both_true : (a b : Bool) → a ≡ true → b ≡ true → (a && b) ≡ true
-both_true true b h k = k
-both_true false b h k = absurd cc
-
-less_is : (o : Ordering) → is_lt o ≡ true → o ≡ Less
-less_is Less h = refl
-less_is Equal h = absurd cc
-less_is Greater h = absurd cc
 
 -- ---- sequences
 
@@ -91,7 +71,7 @@ below_newer newer older lt = newer_of newer older (λ a b i j same. between (seq
 -- neighbours that are no twins have another user key or another sequence
 not_twins : (a b : List ℕ) → is_twin (Some a) b ≡ false → user_of a ≡ user_of b → sequence_of a ≢ sequence_of b
 not_twins a b isnt user sequence =
-    let yes = both_true (nat_eq (sequence_of a) (sequence_of b)) (bytes_eq (user_of a) (user_of b)) ((Decides-eqb (sequence_of a) (sequence_of b)).1 sequence) ((bytes_eq-Decides (user_of a) (user_of b)).1 user) in
+    let yes = and_from (nat_eq (sequence_of a) (sequence_of b)) (bytes_eq (user_of a) (user_of b)) ((Decides-eqb (sequence_of a) (sequence_of b)).1 sequence) ((bytes_eq-Decides (user_of a) (user_of b)).1 user) in
     let both : true ≡ false = sym yes ∙ isnt in
     cc
 
@@ -146,12 +126,12 @@ module _ (cmp : List ℕ → List ℕ → Ordering) (total : IsTotalOrder cmp) w
 
   pub apart_newer : (newer older : List Entry) → EntriesRise cmp newer → EntriesRise cmp older → bounds_tell_apart cmp newer older ≡ true → AreNewer newer older
   apart_newer newer older one two h =
-      elim (or_parts (nat_lt (greatest_sequence older) (least_sequence newer) || are_below cmp newer older) (are_below cmp older newer) h) [
-        | inl left ↦ elim (or_parts (nat_lt (greatest_sequence older) (least_sequence newer)) (are_below cmp newer older) left) [
+      elim (or_cases (nat_lt (greatest_sequence older) (least_sequence newer) || are_below cmp newer older) (are_below cmp older newer) h) [
+        | inl left ↦ elim (or_cases (nat_lt (greatest_sequence older) (least_sequence newer)) (are_below cmp newer older) left) [
           | inl below ↦ below_newer newer older ((Decides-ltb (greatest_sequence older) (least_sequence newer)).0 below)
-          | inr before ↦ newer_of newer older (λ a b i j same. absurd (users_below newer older one two (less_is _ before) a b i j same))
+          | inr before ↦ newer_of newer older (λ a b i j same. absurd (users_below newer older one two (is_lt-true _ before) a b i j same))
         ]
-        | inr behind ↦ newer_of newer older (λ a b i j same. absurd (users_below older newer two one (less_is _ behind) b a j i (sym same)))
+        | inr behind ↦ newer_of newer older (λ a b i j same. absurd (users_below older newer two one (is_lt-true _ behind) b a j i (sym same)))
       ]
 
   -- the same, by what was counted and by each comparison
@@ -161,10 +141,10 @@ module _ (cmp : List ℕ → List ℕ → Ordering) (total : IsTotalOrder cmp) w
         below_newer newer older (subst (λ (n : ℕ). greatest_sequence older < n) (ap (λ (t : Tally). t.oldest) is) (subst (λ (n : ℕ). n < counted.oldest) (ap (λ (t : Tally). t.newest) are) ((Decides-ltb others.newest counted.oldest).0 h)))
 
     pub by_front : are_below cmp newer older ≡ true → AreNewer newer older
-    by_front h = newer_of newer older (λ a b i j same. absurd (users_below newer older one.rising two.rising (less_is _ h) a b i j same))
+    by_front h = newer_of newer older (λ a b i j same. absurd (users_below newer older one.rising two.rising (is_lt-true _ h) a b i j same))
 
     pub by_back : are_below cmp older newer ≡ true → AreNewer newer older
-    by_back h = newer_of newer older (λ a b i j same. absurd (users_below older newer two.rising one.rising (less_is _ h) b a j i (sym same)))
+    by_back h = newer_of newer older (λ a b i j same. absurd (users_below older newer two.rising one.rising (is_lt-true _ h) b a j i (sym same)))
 
   -- ---- a table alone
 
@@ -201,8 +181,8 @@ module _ (cmp : List ℕ → List ℕ → Ordering) (total : IsTotalOrder cmp) w
     falls_behind before [] rising none = tt
     falls_behind before (e ∷ []) rising none = (λ f at. absurd (none_in f at), tt)
     falls_behind before (e ∷ (g ∷ es)) rising none =
-        let rest = (both_false (is_twin before e.key) (has_twins (Some e.key) (g ∷ es)) none).1 in
-        let next = (both_false (is_twin (Some e.key) g.key) (has_twins (Some g.key) es) rest).0 in
+        let rest = (or_parts (is_twin before e.key) (has_twins (Some e.key) (g ∷ es)) none).1 in
+        let next = (or_parts (is_twin (Some e.key) g.key) (has_twins (Some g.key) es) rest).0 in
         (older_behind e g es rising next, falls_behind (Some e.key) (g ∷ es) rising.1 rest)
 
     pub alone : (es : List Entry) → AreCheckedEntries cmp es → has_twins None es ≡ false → AreFalling es
@@ -218,20 +198,9 @@ module _ (cmp : List ℕ → List ℕ → Ordering) (total : IsTotalOrder cmp) w
 
 -- ---- the first and the last key, by their places
 
-pub first_is : (es : List Entry) (key : List ℕ) → Some key ≡ option_map (λ e. e.key) (slice_get es 0) → key ≡ first_key es
-first_is [] key h = absurd (none-some key (sym h))
-first_is (e ∷ es) key h = same_Some key e.key h
-
-pub last_is : (es : List Entry) (key : List ℕ) → Some key ≡ option_map (λ e. e.key) (slice_get es (length es - 1)) → key ≡ last_key [] es
-last_is [] key h = absurd (none-some key (sym h))
-last_is (e ∷ es) key h = same_Some key (last_key e.key es) (h ∙ behind_first e es)
-  where
-    behind_first : (e : Entry) (es : List Entry) → option_map (λ e. e.key) (slice_get (e ∷ es) (length (e ∷ es) - 1)) ≡ Some (last_key e.key es)
-    behind_first e es = table_last (e ∷ es) (record { first = e; others = es; same = refl })
-
 -- ---- a table among others
 
-joined_append : (xs ys : List (List Entry)) → entries_of_lists (xs ++ ys) ≡ entries_of_lists xs ++ entries_of_lists ys
+pub joined_append : (xs ys : List (List Entry)) → entries_of_lists (xs ++ ys) ≡ entries_of_lists xs ++ entries_of_lists ys
 joined_append [] ys = refl
 joined_append (x ∷ xs) ys = ap (λ (es : List Entry). x ++ es) (joined_append xs ys) ∙ sym (append_assoc x (entries_of_lists xs) (entries_of_lists ys))
 

@@ -10,16 +10,7 @@ use Rattle.std.proofs.lemmas.Option.{none-some, same_Some}
 use Rattle.split.specs.Ranges.{KeyRange, IsIn}
 use Rattle.checks.specs.RangeOrder.{common_of, earlier_bound, later_bound}
 use Rattle.checks.specs.CommonRange.{IsInBoth}
-
-pub less_is : (o : Ordering) → is_lt o ≡ true → o ≡ Less
-less_is Less h = refl
-less_is Equal h = absurd cc
-less_is Greater h = absurd cc
-
-pub not_less : (o : Ordering) → is_lt o ≡ false → o ≡ Less → ⊥
-not_less Less h e = absurd cc
-not_less Equal h e = absurd cc
-not_less Greater h e = absurd cc
+use Rattle.ikey.proofs.Ordered.{is_lt-true, is_lt-false}
 
 module _ (cmp : List ℕ → List ℕ → Ordering) (total : IsTotalOrder cmp) where
   -- what is before a key is before each that isn't before it
@@ -53,13 +44,13 @@ module _ (cmp : List ℕ → List ℕ → Ordering) (total : IsTotalOrder cmp) w
   later_by first second key true lt = (
     λ h.
         let after : cmp key second ≢ Less = of_some (λ k. cmp key k ≢ Less) second h in
-        (some_bound (λ k. cmp key k ≢ Less) first (λ below. after (total.trans key first second below (less_is (cmp first second) lt))), h),
+        (some_bound (λ k. cmp key k ≢ Less) first (λ below. after (total.trans key first second below (is_lt-true (cmp first second) lt))), h),
     λ h. h.1,
   )
   later_by first second key false isnt = (
     λ h.
         let after : cmp key first ≢ Less = of_some (λ k. cmp key k ≢ Less) first h in
-        (h, some_bound (λ k. cmp key k ≢ Less) second (λ below. after (before_later first second key (not_less (cmp first second) isnt) below))),
+        (h, some_bound (λ k. cmp key k ≢ Less) second (λ below. after (before_later first second key (is_lt-false (cmp first second) isnt) below))),
     λ h. h.0,
   )
 
@@ -68,13 +59,13 @@ module _ (cmp : List ℕ → List ℕ → Ordering) (total : IsTotalOrder cmp) w
   earlier_by first second key true lt = (
     λ h.
         let below : cmp key first ≡ Less = of_some (λ k. cmp key k ≡ Less) first h in
-        (h, some_bound (λ k. cmp key k ≡ Less) second (total.trans key first second below (less_is (cmp first second) lt))),
+        (h, some_bound (λ k. cmp key k ≡ Less) second (total.trans key first second below (is_lt-true (cmp first second) lt))),
     λ h. h.0,
   )
   earlier_by first second key false isnt = (
     λ h.
         let below : cmp key second ≡ Less = of_some (λ k. cmp key k ≡ Less) second h in
-        (some_bound (λ k. cmp key k ≡ Less) first (before_later first second key (not_less (cmp first second) isnt) below), h),
+        (some_bound (λ k. cmp key k ≡ Less) first (before_later first second key (is_lt-false (cmp first second) isnt) below), h),
     λ h. h.1,
   )
 

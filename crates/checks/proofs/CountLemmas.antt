@@ -9,7 +9,7 @@ use Rattle.folder.specs.meta.FileMeta.{FileMeta}
 use Rattle.checks.specs.FileStarts.{starts_in}
 use Rattle.checks.specs.GroupTest.{AreStatedBy, IsStatedBy, count_of, counts_of}
 
-zip_push : {A B : Type 0} (R : A → B → Type 0) (xs : List A) (ys : List B) (x : A) (y : B) → AllZip R xs ys → R x y → AllZip R (xs ++ x ∷ []) (ys ++ y ∷ [])
+pub zip_push : {A B : Type 0} (R : A → B → Type 0) (xs : List A) (ys : List B) (x : A) (y : B) → AllZip R xs ys → R x y → AllZip R (xs ++ x ∷ []) (ys ++ y ∷ [])
 zip_push R [] [] x y h one = (one, tt)
 zip_push R [] (b ∷ ys) x y h one = absurd h
 zip_push R (a ∷ xs) [] x y h one = absurd h

@@ -4,6 +4,7 @@ use Rattle.std.specs.Prelude.{◌↔◌, zero, suc, Contains, filter}
 use Rattle.std.specs.List.{list_all}
 use Rattle.std.specs.declared.cmp.Ordering.{Ordering}
 use Rattle.std.proofs.lemmas.List.Elements.{All-contains, Contains-get_or}
+use Rattle.std.proofs.lemmas.Bool.{both_ways}
 use Rattle.ikey.specs.Answers.{fault}
 use Rattle.ikey.specs.fault.Fault.{Fault}
 use Rattle.ikey.specs.fault.FaultName.TheVariants.{Memory}
@@ -20,9 +21,6 @@ use Rattle.reads.proofs.Members.{in_filter, from_filter}
 use Rattle.reads.proofs.Pairs.{Pairs, pairs_from, pairs_to}
 use Rattle.reads.proofs.Ranged.{all_fall, fall_in}
 use Rattle.checks.specs.CommonRange.{IsInBoth, TellsRange}
-
-no_both : (b : Bool) → b ≡ true → b ≡ false → ⊥
-no_both b t f = let both : true ≡ false = sym t ∙ f in absurd cc
 
 -- ---- entries of a kind of user keys, and those entries alone
 
@@ -47,7 +45,7 @@ module _ (p : List ℕ → Bool) (P : List ℕ → Type 0) (tells : (user : List
     where
       by : (b : Bool) → own e ≡ b → Pairs IsNewer (cond b (e ∷ kept es) (kept es)) → (Pairs IsNewer (kept es) → Pairs (IsNewerIn P) es) → Pairs (IsNewerIn P) (e ∷ es)
       by true is k rest = (λ c at of_kind same. k.0 c (in_filter own es c (ap p (sym same) ∙ is) at) same, rest k.1)
-      by false is k rest = (λ c at of_kind. absurd (no_both (own e) ((tells (user_of e.key)).1 of_kind) is), rest k)
+      by false is k rest = (λ c at of_kind. absurd (both_ways (own e) is ((tells (user_of e.key)).1 of_kind)), rest k)
 
   -- lists that have the same entries of the kind fall together
   pub same_fall : (xs ys : List Entry) → kept xs ≡ kept ys → AreFallingIn P xs → AreFallingIn P ys
@@ -110,7 +108,7 @@ module _ (cmp : List ℕ → List ℕ → Ordering) (within : KeyRange) (boundar
     λ h.
         let found = some_false outs all in
         let told : get_or outs found.0 true ≡ true = (each found.0 true (omega (arith, len, found.1))).1 (other_kind (IsIn cmp within) (IsInBoth cmp within (range_at boundaries found.0)) (λ user both. both.0) (entries_of_lists lists) h) in
-        absurd (no_both (get_or outs found.0 true) told found.2),
+        absurd (both_ways (get_or outs found.0 true) found.2 told),
   )
 
 -- a labour that states no refusal fails only if out of memory

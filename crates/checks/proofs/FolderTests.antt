@@ -10,11 +10,10 @@ use Rattle.ikey.specs.fault.Fault.{Fault}
 use Rattle.ikey.specs.fault.FaultName.TheVariants.{Lawless, Memory}
 use Rattle.folder.specs.Version.{State}
 use Rattle.folder.specs.meta.FileMeta.{FileMeta}
-use Rattle.folder.proofs.LoadingLemmas.{loaded_before}
-use Rattle.folder.specs.Calls.{Files, Tells}
-use Rattle.folder.specs.Folder.{TellsSame}
+pub use Rattle.folder.proofs.ToldLemmas.{loaded_in, told_still}
+use Rattle.folder.specs.Calls.{Files}
 use Rattle.folder.specs.Levels.{file_numbers}
-use Rattle.folder.specs.LoadedTables.{IsLoaded, IsTableOf}
+use Rattle.folder.specs.LoadedTables.{IsTableOf}
 use Rattle.folder.specs.OpenAnswer.{FolderAnswers, IsStopped}
 use Rattle.folder.specs.ReadsAs.{IsFileIn}
 use Rattle.split.specs.Ranges.{IsCover, KeyRange}
@@ -32,17 +31,6 @@ use Rattle.checks.proofs.FoundTables.{checked_parts}
 use Rattle.checks.proofs.LawfulLemmas.{not_checked, sound}
 use Rattle.checks.proofs.RangeLemmas.{unfound_wrong, walked_sound, walked_wrong}
 use Rattle.checks.proofs.SweepLemmas.{all_sound, all_there, lawless}
-
--- a folder that tells files tells them still if what may be read stays the same
-pub told_still : (old new : List ℕ → Option (List ℕ) → Type 0) (files : Files) → TellsSame old new → Tells old files → Tells new files
-told_still old new files same tells name held = (λ h. (tells name held).0 ((same name held).1 h), λ h. (same name held).0 ((tells name held).1 h))
-
-turned : (tells : List ℕ → Option (List ℕ) → Type 0) (files : Files) → Tells tells files → TellsSame (IsFileIn files) tells
-turned tells files h name held = ((h name held).1, (h name held).0)
-
--- the tables that a folder loads are those of the files that it tells
-pub loaded_in : (tells : List ℕ → Option (List ℕ) → Type 0) (files : Files) (numbers : List ℕ) (r : Result (List (ℕ × List ℕ)) Fault) → Tells tells files → IsLoaded tells numbers r → IsLoaded (IsFileIn files) numbers r
-loaded_in tells files numbers r h loaded = loaded_before (IsFileIn files) tells numbers r (turned tells files h) loaded
 
 -- ---- a range
 

@@ -104,14 +104,6 @@ module _ (cmp : List ℕ → List ℕ → Ordering) (files : Files) where
           subst (λ (c : Contents). IsTableIn cmp files n c) (same_Some t.contents x found) (subst (λ (k : ℕ). IsTableIn cmp files k t.contents) number h.0.1)
       by false other later found = later found
 
-  -- each table that is found is that of its own number
-  pub found_held : (numbers : List ℕ) (tables : List NumberedContents) → AreFound cmp files numbers tables → AreHeldIn cmp files tables
-  found_held [] [] h = All-nil (λ (t : NumberedContents). IsTableIn cmp files t.number t.contents)
-  found_held [] (t ∷ tables) h = absurd h
-  found_held (n ∷ numbers) [] h = absurd h
-  found_held (n ∷ numbers) (t ∷ tables) h =
-      All-cons (λ (t : NumberedContents). IsTableIn cmp files t.number t.contents) t tables (subst (λ (k : ℕ). IsTableIn cmp files k t.contents) (sym h.0.0) h.0.1) (found_held numbers tables h.1)
-
   -- the tables that are held in place of others, and that some are not found
   pub held_found : (numbers : List ℕ) (is_held : Bool) (tables : List NumberedContents) → is_held ≡ true → IsFoundAnswer cmp files numbers (Ok (held_if is_held tables)) → AreFound cmp files numbers tables
   held_found numbers is_held tables held h = subst (λ (b : Bool). IsFoundAnswer cmp files numbers (Ok (held_if b tables))) held h

@@ -2,6 +2,7 @@
 use Rattle.std.proofs.Common.{◌≡◌, ℕ, List, Result, Ok, Err, IsErrAnd, refl, sym, ap, subst, ◌∙◌}
 use Rattle.std.specs.declared.cmp.Ordering.{Ordering}
 use Rattle.ikey.proofs.Refusals.{unless_from}
+use Rattle.ikey.proofs.Binds.{done, failed}
 use Rattle.ikey.specs.Answers.{HoldsOrMemory, UnlessMemory}
 use Rattle.ikey.specs.fault.Fault.{Fault}
 use Rattle.folder.specs.Version.{State}
@@ -10,17 +11,8 @@ use Rattle.reads.specs.Tables.{NumberedContents}
 use Rattle.checks.specs.TableReadings.{tables_reading}
 use Rattle.checks.specs.LawfulTables.{IsLawfulAnswer, IsLawfulTables}
 
-abbrev refusal : {Y : Type 0} → Fault → Result Y Fault
-refusal e = Err e
-
-abbrev answer : {Y : Type 0} → Y → Result Y Fault
-answer y = Ok y
-
-no_refusal : {Y : Type 0} (y : Y) (e : Fault) → answer y ≡ refusal e → ⊥
+no_refusal : {Y : Type 0} (y : Y) (e : Fault) → done y ≡ failed e → ⊥
 no_refusal y e h = cc
-
-same_refusal : {Y : Type 0} (e d : Fault) → refusal {Y = Y} e ≡ refusal d → e ≡ d
-same_refusal e d h = cc
 
 -- a call's refusal that `?` hands on
 pub handed_on : {X Y Z : Type 0} (view : X → Y) (r : Result X Fault) (e : Fault) (IsFirst : Result Z Fault → Type 0) (IsAnswer : Result Y Fault → Type 0)
@@ -47,5 +39,5 @@ module _ (cmp : List ℕ → List ℕ → Ordering) (v : State) (loaded : List (
   sound_lawful tables (Err e, h) = absurd (no_refusal tables e h.1)
 
   pub sound_checked : (tables : List NumberedContents) → IsLawfulTables cmp v loaded (Ok tables) → tables_reading cmp loaded ≡ Ok tables
-  sound_checked tables (Ok first, h) = h.0 ∙ ap (λ (ts : List NumberedContents). answer ts) (sym h.1.0)
+  sound_checked tables (Ok first, h) = h.0 ∙ ap (λ (ts : List NumberedContents). done ts) (sym h.1.0)
   sound_checked tables (Err e, h) = absurd (no_refusal tables e h.1)

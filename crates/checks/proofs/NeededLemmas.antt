@@ -7,6 +7,7 @@ use Rattle.std.specs.Option.{option_map_or}
 use Rattle.std.specs.Ordering.{is_lt}
 use Rattle.std.specs.declared.cmp.Ordering.{Ordering}
 use Rattle.std.proofs.lemmas.List.Elements.{All-head, All-tail, filter-append}
+use Rattle.std.proofs.lemmas.Bool.{false_from_ne_true}
 use Rattle.ikey.specs.Key.{user_of}
 use Rattle.table.specs.EncodedEntry.{Entry}
 use Rattle.reads.specs.MergedLists.{entries_of_lists}
@@ -34,15 +35,11 @@ swapped true true h = refl
 swapped true false h = absurd cc
 swapped false b h = absurd cc
 
-not_needed_by : (begins earlier ends : Bool) → (begins && (not earlier || not ends)) ≡ false → (begins ≡ false) ⊎ (ends ≡ true)
+pub not_needed_by : (begins earlier ends : Bool) → (begins && (not earlier || not ends)) ≡ false → (begins ≡ false) ⊎ (ends ≡ true)
 not_needed_by false earlier ends h = inl refl
 not_needed_by true false ends h = absurd cc
 not_needed_by true true true h = inr refl
 not_needed_by true true false h = absurd cc
-
-not_started_by : (b : Bool) → (b ≡ true → ⊥) → b ≡ false
-not_started_by true h = absurd (h refl)
-not_started_by false h = refl
 
 module _ (cmp : List ℕ → List ℕ → Ordering) (total : IsTotalOrder cmp) (range : KeyRange) where
   pub starts_needed : (f : FileMeta) → starts_in cmp range f ≡ true → is_file_needed cmp range f ≡ true
@@ -101,7 +98,7 @@ module _ (cmp : List ℕ → List ℕ → Ordering) (total : IsTotalOrder cmp) (
       none : is_file_needed cmp range f ≡ false → (if starts_in cmp range f then length (table_entries tables f.number) else 0) ≡ 0
       none isnt =
           ap (λ (b : Bool). if b then length (table_entries tables f.number) else 0)
-          (not_started_by (starts_in cmp range f) (λ starts. let both : true ≡ false = sym (starts_needed f starts) ∙ isnt in absurd cc))
+          (false_from_ne_true (starts_in cmp range f) (λ starts. let both : true ≡ false = sym (starts_needed f starts) ∙ isnt in absurd cc))
 
       plus_none : (a b : ℕ) → a ≡ 0 → b ≡ a + b
       plus_none a b h = omega (arith, h)

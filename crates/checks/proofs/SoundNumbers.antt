@@ -1,9 +1,9 @@
 -- Numbers whose tables are known to be valid, beside those that are read in order.
 use Rattle.std.proofs.Common.{◌≡◌, ℕ, Bool, true, false, nat_eq, cond, List, [], ◌∷◌, ◌++◌, Result, Ok, Err, IfOk, refl, sym, ap, subst, ◌∙◌}
-use Rattle.std.specs.Prelude.{filter, not}
+use Rattle.std.specs.Prelude.{filter}
 use Rattle.std.specs.List.{AllZip, list_any}
 use Rattle.std.specs.declared.cmp.Ordering.{Ordering}
-use Rattle.std.proofs.lemmas.Bool.{eqb-true}
+use Rattle.std.proofs.lemmas.Bool.{eqb-true, not-false}
 use Rattle.std.proofs.lemmas.List.Elements.{All-append, All-contains, All-map, All-nil}
 use Rattle.std.proofs.lemmas.Map.Views.{Contains-from_any}
 use Rattle.ikey.proofs.Binds.{done, failed}
@@ -42,10 +42,6 @@ of_any (Err e) p = tt
 
 same_numbers : (x y : ℕ) → nat_eq y x ≡ true → x ≡ y
 same_numbers x y h = sym (eqb-true y x h)
-
-not_not : (b : Bool) → not b ≡ false → b ≡ true
-not_not true h = refl
-not_not false h = absurd cc
 
 -- ---- what is answered of all
 
@@ -101,7 +97,7 @@ module _ (cmp : List ℕ → List ℕ → Ordering) (files : Files) (sound : Lis
 
   known : (n : ℕ) → is_unknown sound n ≡ false → KnownTable n
   known n is =
-      let found = All-contains (IsSoundIn cmp files) sound n are (Contains-from_any {eq = λ a b. nat_eq b a} same_numbers n sound (not_not (list_any (λ (m : ℕ). nat_eq m n) sound) is)) in
+      let found = All-contains (IsSoundIn cmp files) sound n are (Contains-from_any {eq = λ a b. nat_eq b a} same_numbers n sound (not-false (list_any (λ (m : ℕ). nat_eq m n) sound) is)) in
       let first : NumberedContents = record { number = n; contents = found.0 } in
       record {
         bytes = found.0.bytes;

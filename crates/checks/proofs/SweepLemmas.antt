@@ -1,5 +1,5 @@
 -- A version whose ranges are sound is lawful with the tables that the files hold.
-use Rattle.std.proofs.Common.{◌≡◌, ℕ, zero, suc, ◌+◌, ◌<◌, ◌≤◌, Bool, true, false, eqb, List, [], ◌∷◌, ◌++◌, length, map, get_or, Option, Some, Result, Ok, Err, refl, sym, ap, ap₂, subst, ◌∙◌, inl, inr, if◌then◌else◌, arith, eq-or-lt_of_le}
+use Rattle.std.proofs.Common.{◌≡◌, ℕ, zero, suc, ◌+◌, ◌<◌, ◌≤◌, Bool, true, false, eqb, List, [], ◌∷◌, ◌++◌, length, map, get_or, Some, Result, Ok, Err, refl, sym, ap, ap₂, subst, ◌∙◌, inl, inr, if◌then◌else◌, arith, eq-or-lt_of_le}
 use Rattle.std.specs.Prelude.{Contains}
 use Rattle.std.specs.List.{All, AllZip, find, flat_map, sum_by}
 use Rattle.std.specs.List.Sorted.{IsPermutation}
@@ -171,40 +171,39 @@ module _ (cmp : List ℕ → List ℕ → Ordering) (files : Files) where
         | inr behind ↦ later behind
       ]
 
-  module _ (next : Option ℕ) where
-    -- tables made of files whose tables are what the version states
-    pub record Built (metas : List FileMeta) : Type 0 where
-      pub loaded : List (ℕ × List ℕ)
-      pub tables : List NumberedContents
-      pub there : AllZip (IsTableOf (IsFileIn files)) (numbers_in metas) loaded
-      pub read : tables_reading cmp loaded ≡ Ok tables
+  -- tables made of files that have some
+  pub record Built (metas : List FileMeta) : Type 0 where
+    pub loaded : List (ℕ × List ℕ)
+    pub tables : List NumberedContents
+    pub there : AllZip (IsTableOf (IsFileIn files)) (numbers_in metas) loaded
+    pub read : tables_reading cmp loaded ≡ Ok tables
 
-    built : (metas : List FileMeta) → ((f : FileMeta) → Contains metas f → IsStatedIn cmp files next f) → Built metas
-    built [] each = record { loaded = []; tables = []; there = tt; read = refl }
-    built (f ∷ metas) each =
-        let s = each f (first_in f metas) in
-        let rest = built metas (λ g at. each g (later_in f metas g at)) in
-        let first : NumberedContents = record { number = f.number; contents = s.contents } in
-        record {
-          loaded = (f.number, s.contents.bytes) ∷ rest.loaded;
-          tables = first ∷ rest.tables;
-          there = ((refl, s.there.there), rest.there);
-          read = ap (λ (r : Result Contents Fault). (r >>= λ contents. Ok (record { number = f.number; contents = contents })) >>= λ first. tables_reading cmp rest.loaded >>= λ others. Ok (first ∷ others)) s.there.read
-              ∙ ap (λ (r : Result (List NumberedContents) Fault). r >>= λ others. Ok (first ∷ others)) rest.read;
-        }
+  pub built : (metas : List FileMeta) → ((f : FileMeta) → Contains metas f → (x : Contents) × IsTableIn cmp files f.number x) → Built metas
+  built [] each = record { loaded = []; tables = []; there = tt; read = refl }
+  built (f ∷ metas) each =
+      let s = each f (first_in f metas) in
+      let rest = built metas (λ g at. each g (later_in f metas g at)) in
+      let first : NumberedContents = record { number = f.number; contents = s.0 } in
+      record {
+        loaded = (f.number, s.0.bytes) ∷ rest.loaded;
+        tables = first ∷ rest.tables;
+        there = ((refl, s.1.there), rest.there);
+        read = ap (λ (r : Result Contents Fault). (r >>= λ contents. Ok (record { number = f.number; contents = contents })) >>= λ first. tables_reading cmp rest.loaded >>= λ others. Ok (first ∷ others)) s.1.read
+            ∙ ap (λ (r : Result (List NumberedContents) Fault). r >>= λ others. Ok (first ∷ others)) rest.read;
+      }
 
-    -- the entries of tables, counted by files
-    counted : (tables : List NumberedContents) → ((n : ℕ) (x : Contents) → table_of_number tables n ≡ Some x → IsTableIn cmp files n x) → (metas : List FileMeta) (some : List NumberedContents) → AreFound cmp files (numbers_in metas) some
-        → ((n : ℕ) → Contains (numbers_in metas) n → (x : Contents) × (table_of_number tables n ≡ Some x)) → sizes_in tables metas ≡ entry_count some
-    counted tables at [] [] h each = refl
-    counted tables at [] (t ∷ some) h each = absurd h
-    counted tables at (f ∷ metas) [] h each = absurd h
-    counted tables at (f ∷ metas) (t ∷ some) h each =
-        let found = each f.number (first_in f.number (numbers_in metas)) in
-        let same : found.0 ≡ t.contents = one_table cmp files f.number found.0 t.contents (at f.number found.0 found.1) h.0.1 in
-        let own : size_in tables f ≡ length t.contents.entries = ap (λ (es : List Entry). length es) (entries_are tables f.number found.0 found.1 ∙ ap (λ (c : Contents). c.entries) same) in
-        ap₂ (λ (a b : ℕ). a + b) own (counted tables at metas some h.1 (λ n there. each n (later_in f.number (numbers_in metas) n there)))
-        ∙ sym (length-append t.contents.entries (flat_map (λ (t : NumberedContents). t.contents.entries) some))
+  -- the entries of tables, counted by files
+  counted : (tables : List NumberedContents) → ((n : ℕ) (x : Contents) → table_of_number tables n ≡ Some x → IsTableIn cmp files n x) → (metas : List FileMeta) (some : List NumberedContents) → AreFound cmp files (numbers_in metas) some
+      → ((n : ℕ) → Contains (numbers_in metas) n → (x : Contents) × (table_of_number tables n ≡ Some x)) → sizes_in tables metas ≡ entry_count some
+  counted tables at [] [] h each = refl
+  counted tables at [] (t ∷ some) h each = absurd h
+  counted tables at (f ∷ metas) [] h each = absurd h
+  counted tables at (f ∷ metas) (t ∷ some) h each =
+      let found = each f.number (first_in f.number (numbers_in metas)) in
+      let same : found.0 ≡ t.contents = one_table cmp files f.number found.0 t.contents (at f.number found.0 found.1) h.0.1 in
+      let own : size_in tables f ≡ length t.contents.entries = ap (λ (es : List Entry). length es) (entries_are tables f.number found.0 found.1 ∙ ap (λ (c : Contents). c.entries) same) in
+      ap₂ (λ (a b : ℕ). a + b) own (counted tables at metas some h.1 (λ n there. each n (later_in f.number (numbers_in metas) n there)))
+      ∙ sym (length-append t.contents.entries (flat_map (λ (t : NumberedContents). t.contents.entries) some))
 
 -- ---- the whole
 
@@ -224,7 +223,7 @@ module _ (cmp : List ℕ → List ℕ → Ordering) (total : IsTotalOrder cmp) (
         read = made.read;
         lawful = (stand.lawful made.tables).1 (each_stated, fall_in_each cmp boundaries cover (entries_of_lists (lists_of_files made.tables standing)) (λ i le. sound.falls i (below i le) made.tables are));
         is = sound.is made.tables are ∙ counted_all cmp total boundaries made.tables cover standing ∙ sizes_moved made.tables (all_metas cmp v) standing stand.permutation
-            ∙ counted cmp files v.next_file made.tables at_number (all_metas cmp v) made.tables found_all (some_found cmp files (numbers_in (all_metas cmp v)) made.tables found_all);
+            ∙ counted cmp files made.tables at_number (all_metas cmp v) made.tables found_all (some_found cmp files (numbers_in (all_metas cmp v)) made.tables found_all);
       }
     where
       below : (i : ℕ) → i ≤ length boundaries → i < length boundaries + 1
@@ -235,8 +234,8 @@ module _ (cmp : List ℕ → List ℕ → Ordering) (total : IsTotalOrder cmp) (
           let one = cover.each_once (user_of f.smallest) in
           sound.stated one.number (below one.number one.below) f at (starts_needed cmp total (range_at boundaries one.number) f (starts_where cmp total (range_at boundaries one.number) f one.within))
 
-      made : Built cmp files v.next_file (all_metas cmp v)
-      made = built cmp files v.next_file (all_metas cmp v) (λ f at. stated_at f (Contains-permutation (all_metas cmp v) standing f stand.permutation at))
+      made : Built cmp files (all_metas cmp v)
+      made = built cmp files (all_metas cmp v) (λ f at. let s = stated_at f (Contains-permutation (all_metas cmp v) standing f stand.permutation at) in (s.contents, s.there))
 
       found_all : AreFound cmp files (numbers_in (all_metas cmp v)) made.tables
       found_all = found_tables cmp files (numbers_in (all_metas cmp v)) made.loaded made.tables made.there made.read

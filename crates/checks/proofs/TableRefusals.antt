@@ -21,28 +21,28 @@ use Rattle.table.specs.TestResult.{test_result}
 use Rattle.checks.specs.TableReadings.{numbered_reading, tables_reading}
 
 -- each name but Device
-IsOther : FaultName → Type 0
+unfoldable pub IsOther : FaultName → Type 0
 IsOther Device = ⊥
 IsOther _ = Unit {0}
 
 -- each refusal of an answer has another name
-AllOther : {A : Type 0} → Result A Fault → Type 0
+pub AllOther : {A : Type 0} → Result A Fault → Type 0
 AllOther r = IfErr r (λ e. IsOther e.name)
 
-value : {A : Type 0} (x : A) → AllOther (Ok x)
+pub value : {A : Type 0} (x : A) → AllOther (Ok x)
 unfolding AllOther
 value x = tt
 
-named : (A : Type 0) (n : FaultName) → IsOther n → AllOther {A = A} (Err (fault n))
+pub named : (A : Type 0) (n : FaultName) → IsOther n → AllOther {A = A} (Err (fault n))
 unfolding AllOther
 named A n h = h
 
-bound : {A B : Type 0} (r : Result A Fault) (f : A → Result B Fault) → AllOther r → ((x : A) → AllOther (f x)) → AllOther (r >>= f)
+pub bound : {A B : Type 0} (r : Result A Fault) (f : A → Result B Fault) → AllOther r → ((x : A) → AllOther (f x)) → AllOther (r >>= f)
 unfolding AllOther
 bound (Ok x) f one two = two x
 bound (Err e) f one two = one
 
-tested : {A : Type 0} (b : Bool) (r s : Result A Fault) → AllOther r → AllOther s → AllOther (if b then r else s)
+pub tested : {A : Type 0} (b : Bool) (r s : Result A Fault) → AllOther r → AllOther s → AllOther (if b then r else s)
 tested true r s one two = one
 tested false r s one two = two
 
@@ -58,7 +58,7 @@ block_other : (bytes : List ℕ) → AllOther (block_reading bytes)
 unfolding block_reading IsOther
 block_other bytes = tested _ _ _ (value _) (named _ Block tt)
 
-in_other : (stored : List ℕ) → AllOther (block_in stored)
+pub in_other : (stored : List ℕ) → AllOther (block_in stored)
 in_other stored = bound (stored_reading stored) _ (stored_other stored) block_other
 
 at_other : (bytes : List ℕ) (handle : BlockHandle) → AllOther (stored_at bytes handle)
@@ -66,7 +66,7 @@ unfolding IsOther
 at_other bytes handle = tested (nat_le (handle.offset + handle.size + 5 + 48) (length bytes)) _ _ (value _) (named _ Range tt)
 
 -- the footer and the index
-footer_other : (bytes : List ℕ) → AllOther (footer_reading bytes)
+pub footer_other : (bytes : List ℕ) → AllOther (footer_reading bytes)
 unfolding footer_reading IsOther
 footer_other bytes = tested _ _ _ (named _ Magic tt) (by _)
   where
@@ -158,10 +158,10 @@ other_name : (n : FaultName) → IsOther n → n ≢ Device
 unfolding IsOther
 other_name n h same = subst IsOther same h
 
-of_answer : {A : Type 0} (r : Result A Fault) (e : Fault) → r ≡ failed e → AllOther r → IsOther e.name
+-- What refuses isn't Device.
+pub not_device : {A : Type 0} (r : Result A Fault) (e : Fault) → AllOther r → r ≡ failed e → e.name ≢ Device
 unfolding AllOther
-of_answer {A = A} r e same h = subst (λ (x : Result A Fault). IfErr x (λ f. IsOther f.name)) same h
+not_device {A = A} r e h same = other_name e.name (subst (λ (x : Result A Fault). IfErr x (λ f. IsOther f.name)) same h)
 
--- What refuses tables isn't Device.
 pub no_device : (cmp : List ℕ → List ℕ → Ordering) (loaded : List (ℕ × List ℕ)) (e : Fault) → tables_reading cmp loaded ≡ Err e → e.name ≢ Device
-no_device cmp loaded e h = other_name e.name (of_answer (tables_reading cmp loaded) e h (tables_other cmp loaded))
+no_device cmp loaded e h = not_device (tables_reading cmp loaded) e (tables_other cmp loaded) h

@@ -8,7 +8,6 @@ use Rattle.ikey.proofs.Binds.{bind_ok, ok_is}
 use Rattle.byteorder.specs.Endian.{little_number}
 use Rattle.ikey.specs.Answers.{fault}
 use Rattle.ikey.specs.Crc.{crc32c, masked}
-use Rattle.ikey.specs.fault.FaultName.{FaultName}
 use Rattle.ikey.specs.fault.FaultName.TheVariants.{BlockType, Compressed, Empty, Index, Short, Size, Trailer}
 use Rattle.ikey.specs.fault.Fault.{Fault}
 use Rattle.table.specs.EncodedEntry.{Entry, EncodedEntry, entries_after, encoded_entry_bytes}
@@ -23,6 +22,7 @@ use Rattle.table.specs.TableContents.{Contents, DataBlock, blocks_of, blocks_rea
 use Rattle.table.specs.EntryTests.{data_test, is_some_list, last_key_after}
 use Rattle.table.specs.IndexReading.{IndexEntry, block_in, index_entry, index_reading, one_handle, stored_at}
 use Rattle.table.specs.TestResult.{test_result}
+use Rattle.table.proofs.EntryTests.{passed}
 
 -- ---- a block
 
@@ -152,11 +152,6 @@ few_of_blocks cmp n small before (i ∷ is) blocks within h =
     let both = length-append a.0 (entries_of c.0) in
     subst (λ (bs : List DataBlock). length (entries_of bs) ≤ length (i ∷ is) * 1073741824) (ok_is (record { index_key = i.key; entries = a.0 } ∷ c.0) blocks c.2)
     (omega (arith, first, fits, later, both, small))
-
--- a test that was passed
-passed : (b : Bool) (name : FaultName) (u : Unit {0}) → test_result b name ≡ Ok u → b ≡ true
-passed true name u h = refl
-passed false name u h = absurd cc
 
 -- what is said of an index's entries and of the bytes
 record IsIndexIn (bytes : List ℕ) (es : List Entry) : Type 0 where

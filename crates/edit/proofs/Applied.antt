@@ -64,12 +64,6 @@ pub after_is : (files : List NewFile) (ds : List DeletedFile) (added : List NewF
     → files_after files ds added ≡ Some (fold with_file (undeleted_files ds files) added)
 after_is files ds added p q = rw (p, q) refl
 
-pub after_no_place : (files : List NewFile) (ds : List DeletedFile) (added : List NewFile) → list_all (has_place files) ds ≡ false → answer (files_after files ds added) ≡ Err (fault Apply)
-after_no_place files ds added e = rw e refl
-
-pub after_clash : (files : List NewFile) (ds : List DeletedFile) (added : List NewFile) → list_all (has_place files) ds ≡ true → are_new (undeleted_files ds files) added ≡ false → answer (files_after files ds added) ≡ Err (fault Apply)
-after_clash files ds added p q = rw (p, q) refl
-
 tests_passed : (a b : Bool) (x y : List NewFile) → cond (a && b) (Some x) None ≡ some_files y → x ≡ y
 tests_passed true true x y e = cc
 tests_passed true false x y e = absurd cc

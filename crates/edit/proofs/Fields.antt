@@ -3,6 +3,7 @@ use Rattle.std.proofs.Common.{◌≡◌, ℕ, ◌^◌, ◌<◌, ◌≤◌, ◌�
 use Rattle.std.specs.List.{find}
 use Rattle.std.specs.Option.{option_map, option_map_or, ok_or, is_none}
 use Rattle.std.proofs.lemmas.Bool.{eqb-true}
+use Rattle.std.proofs.lemmas.Option.{same_Some}
 use Rattle.coding.specs.Answers.{fault}
 use Rattle.coding.specs.Varint.{varint, varint_reading, length_prefixed}
 use Rattle.coding.specs.declared.fault.Fault.{Fault}
@@ -27,9 +28,6 @@ pub record TakesContent (tag : Tag) (bytes : List ℕ) (x : Field × List ℕ) :
   pub parts : bytes ≡ content x.0 ++ x.1
   pub lawful : IsField x.0
   pub rest_fits : IsBytes x.1
-
-some_is : {A : Type 0} (x y : A) → Some x ≡ Some y → x ≡ y
-some_is x y e = cc
 
 number_takes : (field : ℕ → Field) (tag : Tag) (tagged : (n : ℕ) → field_tag (field n) ≡ tag) (spelt : (n : ℕ) → content (field n) ≡ varint n) (lawful : (n : ℕ) → n < 2 ^ 64 → IsField (field n))
     (bytes : List ℕ) (x : Field × List ℕ) → IsBytes bytes → number_field field bytes ≡ Some x → TakesContent tag bytes x
@@ -57,7 +55,7 @@ pointer_takes bytes x fits e =
       lawful = (l.within, k.key);
       rest_fits = k.rest_fits;
     } in
-    subst (TakesContent Pointer bytes) (some_is _ _ b.2) made
+    subst (TakesContent Pointer bytes) (same_Some _ _ b.2) made
 
 deleted_takes : (bytes : List ℕ) (x : Field × List ℕ) → IsBytes bytes → deleted_at bytes ≡ Some x → TakesContent Deleted bytes x
 unfolding deleted_at
@@ -72,7 +70,7 @@ deleted_takes bytes x fits e =
       lawful = (l.within, n.below);
       rest_fits = n.rest_fits;
     } in
-    subst (TakesContent Deleted bytes) (some_is _ _ b.2) made
+    subst (TakesContent Deleted bytes) (same_Some _ _ b.2) made
 
 -- the parts of a new file
 abbrev file_of : ℕ → ℕ → ℕ → List ℕ → List ℕ → NewFile
@@ -121,7 +119,7 @@ added_takes bytes x fits e =
       lawful = (level.within, number.below, size.below, smallest.key, largest.key);
       rest_fits = largest.rest_fits;
     } in
-    subst (TakesContent Added bytes) (some_is _ _ g.2) made
+    subst (TakesContent Added bytes) (same_Some _ _ g.2) made
 
 pub content_takes : (tag : Tag) (bytes : List ℕ) (x : Field × List ℕ) → IsBytes bytes → content_at tag bytes ≡ Some x → TakesContent tag bytes x
 content_takes Comparator bytes x fits e =

@@ -206,9 +206,6 @@ pub record TakesOut (before : List NewFile) (all : List DeletedFile) (files : Li
   pub there : list_all (has_place before) all ≡ list_all (has_place files) rest
   pub rises : IsStrictlySortedBy deleted_cmp rest
 
-pub takes_begin : (files : List NewFile) (all : List DeletedFile) → IsStrictlySortedBy deleted_cmp all → TakesOut files all files all
-takes_begin files all rises = record { kept = refl; there = refl; rises = rises }
-
 pub takes_on : (before : List NewFile) (all : List DeletedFile) (files after : List NewFile) (d : DeletedFile) (rest : List DeletedFile) → TakesOut before all files (d ∷ rest) → has_place files d ≡ true
     → after ≡ undeleted_files (d ∷ []) files → TakesOut before all after rest
 unfolding IsStrictlySortedBy
@@ -220,10 +217,6 @@ takes_on before all files after d rest t there is = record {
       ∙ ap (λ (fs : List NewFile). list_all (has_place fs) rest) (sym is);
   rises = t.rises.1;
 }
-
-pub takes_none : (before : List NewFile) (all : List DeletedFile) (files : List NewFile) (d : DeletedFile) (rest : List DeletedFile) → TakesOut before all files (d ∷ rest) → has_place files d ≡ false
-    → list_all (has_place before) all ≡ false
-takes_none before all files d rest t none = t.there ∙ ap (λ (b : Bool). b && list_all (has_place files) rest) none
 
 -- ---- new files
 

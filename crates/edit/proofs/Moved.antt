@@ -5,7 +5,7 @@ use Rattle.std.specs.Map.{keys_of, values_of, lookup, remove_entry, set_value}
 use Rattle.std.specs.Option.{option_map_or}
 use Rattle.std.specs.Ordering.{nat_cmp}
 use Rattle.std.specs.BTreeMap.{is_at}
-use Rattle.std.proofs.lemmas.Bool.{eqb-true}
+use Rattle.std.proofs.lemmas.Bool.{eqb-true, eq-eqb, both_ways}
 use Rattle.std.proofs.lemmas.Bool.Decides.{nat_tests}
 use Rattle.std.proofs.lemmas.Cmp.{nat_cmp_total, eq_by_cmp_equiv}
 use Rattle.std.proofs.lemmas.Map.{lookup-remove_entry, lookup-set_value, keys-set_value}
@@ -95,14 +95,10 @@ one_number files i n d e h = same_Some n d (sym e ∙ h)
 some_test : (d q : ℕ) → d ≡ q → same d q ≡ true
 some_test d q e = same_self d q (sym e)
 
-true_false : (b : Bool) → b ≡ true → b ≡ false → ⊥
-true_false true e h = absurd cc
-true_false false e h = absurd cc
-
 -- a place that another number has is another place
 other_place : (files after : List NewFile) (ps : List (ℕ × ℕ)) (d i last q j : ℕ) → TakesOne files after ps d i last → same d q ≡ false → number_at files j ≡ Some q → j ≡ i → ⊥
 other_place files after ps d i last q j t apart there is =
-    true_false (same d q) (some_test d q (one_number files i d q (t.placed_so.sound d i t.under) (ap (number_at files) (sym is) ∙ there))) apart
+    both_ways (same d q) apart (some_test d q (one_number files i d q (t.placed_so.sound d i t.under) (ap (number_at files) (sym is) ∙ there)))
 
 file_moved : (files after : List NewFile) (ps : List (ℕ × ℕ)) (d i last q j : ℕ) → TakesOne files after ps d i last → same d q ≡ false → number_at files j ≡ Some q → slice_get after (moved_to last i j) ≡ slice_get files j
 file_moved files after ps d i last q j t apart there =
@@ -122,7 +118,7 @@ not_last : (files after : List NewFile) (ps : List (ℕ × ℕ)) (i last m q : �
 not_last files after ps i last m q None h is apart = refl
 not_last files after ps i last m q (Some j) h is apart =
     ap (λ (k : ℕ). some k) (by_test (eqb j last) (λ (b : Bool). eqb j last ≡ b → cond b i j ≡ j)
-    (λ _ e. absurd (true_false (same m q) (some_test m q (one_number files last m q is (ap (number_at files) (sym (eqb-true j last e)) ∙ h j refl))) apart))
+    (λ _ e. absurd (both_ways (same m q) apart (some_test m q (one_number files last m q is (ap (number_at files) (sym (eqb-true j last e)) ∙ h j refl)))))
     (λ _ _. refl) refl)
 
 moves_by : (b : Bool) (files after : List NewFile) (ps : List (ℕ × ℕ)) (d i last m q : ℕ) → TakesOne files after ps d i last → same m q ≡ b → same d m ≡ false → number_at files last ≡ Some m
@@ -204,9 +200,6 @@ found_moved files after ps qs d i last n j k t m there apart is =
     (λ _ e. absurd (apart (sym (same_Some i j (sym t.under ∙ ap (found ps) (same_is d n e) ∙ at))))) (λ _ _. refl) refl in
     m n ∙ ap (λ (b : Bool). cond b None (moved last i (found ps n))) other ∙ ap (moved last i) at ∙ ap (λ (x : ℕ). some x) is
 
-eqb_self : (k i : ℕ) → k ≡ i → eqb k i ≡ true
-eqb_self k i e = grind (arith, nat_tests)
-
 complete_by : (b : Bool) (files after : List NewFile) (ps qs : List (ℕ × ℕ)) (d i last n k : ℕ) → TakesOne files after ps d i last → Moves ps qs d i last → eqb k i ≡ b → k < last → number_at after k ≡ Some n → found qs n ≡ Some k
 complete_by true files after ps qs d i last n k t m is lt there =
     let k-is = eqb-true k i is in
@@ -214,7 +207,7 @@ complete_by true files after ps qs d i last n k t m is lt there =
     let self : eqb last last ≡ true = grind (arith, nat_tests) in
     found_moved files after ps qs d i last n last k t m (ap number_of (sym (t.swapped.moved low)) ∙ ap (number_at after) (sym k-is) ∙ there) (λ e. omega arith) (ap (λ (b : Bool). cond b i last) self ∙ sym k-is)
 complete_by false files after ps qs d i last n k t m is lt there =
-    let apart : k ≡ i → ⊥ = λ e. true_false (eqb k i) (eqb_self k i e) is in
+    let apart : k ≡ i → ⊥ = λ e. both_ways (eqb k i) is (eq-eqb k i e) in
     let low : eqb k last ≡ false = grind (arith, nat_tests) in
     found_moved files after ps qs d i last n k k t m (ap number_of (sym (t.swapped.others k apart lt)) ∙ there) apart (ap (λ (b : Bool). cond b i k) low)
 

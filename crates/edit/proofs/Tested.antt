@@ -1,35 +1,11 @@
 -- Tests, and tests over lists.
-use Rattle.std.proofs.Common.{◌≡◌, ℕ, Bool, true, false, not, cond, eqb, ◌&&◌, ◌||◌, List, [], ◌∷◌, refl, ap, ◌∙◌, arith}
+use Rattle.std.proofs.Common.{◌≡◌, ℕ, Bool, true, false, cond, eqb, ◌&&◌, ◌||◌, List, [], ◌∷◌, refl, ap, ◌∙◌, arith}
 use Rattle.std.specs.List.{filter, list_any}
 use Rattle.std.specs.Ordering.{nat_cmp, is_eq, ordering_then}
 use Rattle.std.specs.declared.cmp.Ordering.{Ordering}
 use Rattle.std.specs.declared.cmp.Ordering.TheVariants.{Less, Equal, Greater}
+pub use Rattle.std.proofs.lemmas.Bool.{and_parts as both_true, or_parts as both_false, and_right as and_false, not-true as not_is_true}
 use Rattle.std.proofs.lemmas.Bool.Decides.{nat_tests}
-
-pub both_true : (a b : Bool) → (a && b) ≡ true → (a ≡ true) × (b ≡ true)
-both_true true b e = (refl, e)
-both_true false b e = absurd cc
-
-pub both_false : (a b : Bool) → (a || b) ≡ false → (a ≡ false) × (b ≡ false)
-both_false true b e = absurd cc
-both_false false b e = (refl, e)
-
-pub and_false : (a b : Bool) → b ≡ false → (a && b) ≡ false
-and_false true b e = e
-and_false false b e = refl
-
-pub not_is_true : (a : Bool) → not a ≡ true → a ≡ false
-not_is_true true e = absurd cc
-not_is_true false e = refl
-
--- what is the negation of a test
-pub not_false_is : (a b : Bool) → a ≡ not b → a ≡ false → b ≡ true
-not_false_is a true e f = refl
-not_false_is a false e f = absurd cc
-
-pub not_true_is : (a b : Bool) → a ≡ not b → a ≡ true → b ≡ false
-not_true_is a true e f = absurd cc
-not_true_is a false e f = refl
 
 pub eqb-sym : (x y : ℕ) → eqb x y ≡ eqb y x
 eqb-sym x y = grind (arith, nat_tests)

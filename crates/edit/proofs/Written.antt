@@ -1,5 +1,5 @@
 -- What the loops of a writer keep, and what the fields of an edit set.
-use Rattle.std.proofs.Common.{◌≡◌, ℕ, suc, ◌+◌, ◌<◌, ◌≤◌, List, [], ◌∷◌, ◌++◌, map, length, drop, get_or, Option, Some, None, refl, sym, ap, subst, ◌∙◌, append_assoc, add-one}
+use Rattle.std.proofs.Common.{◌≡◌, ℕ, suc, ◌+◌, ◌<◌, List, [], ◌∷◌, ◌++◌, map, length, drop, get_or, Option, Some, None, refl, sym, ap, subst, ◌∙◌, append_assoc, add-one}
 use Rattle.std.specs.List.{All, fold, flat_map, AllByRecursion}
 use Rattle.std.specs.List.Sorted.{IsStrictlySortedBy}
 use Rattle.std.specs.BTreeSet.{insert_key}
@@ -8,7 +8,7 @@ use Rattle.std.specs.Ordering.{ordering_reverse}
 use Rattle.std.specs.declared.cmp.Ordering.TheVariants.{Less, Greater}
 use Rattle.std.proofs.Math.Seq.{drop-cons}
 use Rattle.std.proofs.lemmas.Cmp.{nat_cmp_total, on_total, then_total}
-use Rattle.std.proofs.lemmas.List.{append-nil, map-append, drop_all}
+use Rattle.std.proofs.lemmas.List.{append-nil, map-append}
 use Rattle.std.proofs.lemmas.List.Elements.{All-head, All-tail}
 use Rattle.std.proofs.lemmas.List.Sums.{fold-append}
 use Rattle.std.proofs.lemmas.Grind.{flat_map-append}
@@ -79,9 +79,6 @@ writes_end field P all old out rest w none =
       written = w.written ∙ ap (λ (t : List _). old ++ flat_map spelling (map field t)) whole;
       lawful = subst (λ (t : List _). AllByRecursion IsField (map field t)) whole w.lawful;
     }
-
-pub writes_end_at : {A : Type 0} (field : A → Field) (P : A → Type 0) (all : List A) (old out : List ℕ) (i : ℕ) → Writes field P all old out (drop i all) → length all ≤ i → Written field all old out
-writes_end_at field P all old out i w le = writes_end field P all old out (drop i all) w (drop_all i all le)
 
 -- ---- what the fields of an edit set
 

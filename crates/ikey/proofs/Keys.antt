@@ -210,8 +210,3 @@ from_parts : (user : List ℕ) (t : ℕ) (kind : Kind) → kind_number kind ≡ 
 unfolding internal_key
 from_parts user t kind e =
     let whole : t / 256 * 256 + kind_number kind ≡ t = omega arith in ap (λ n. user ++ tag_bytes n) whole
-
--- an internal key is made of its parts
-pub internal_key-parts : (bytes : List ℕ) → IsInternalKey bytes → internal_key (user_of bytes) (sequence_of bytes) (kind_of bytes) ≡ bytes
-internal_key-parts bytes l =
-    from_parts (user_of bytes) (tag_of bytes) (kind_of bytes) (kind_number-kind_of bytes l.typed) ∙ sym (user_and_tag bytes l)

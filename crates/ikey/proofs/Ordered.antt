@@ -1,16 +1,26 @@
 -- The order of internal keys.
-use Rattle.std.proofs.Common.{◌≡◌, ℕ, ◌/◌, ◌%◌, ◌<◌, List, refl, sym, ap, ◌∙◌, arith}
+use Rattle.std.proofs.Common.{◌≡◌, ◌≢◌, ℕ, ◌/◌, ◌%◌, ◌<◌, true, false, List, refl, sym, ap, ◌∙◌, arith}
 use Rattle.std.specs.declared.cmp.Ordering.{Ordering}
 use Rattle.std.specs.declared.cmp.Ordering.TheVariants.{Less, Equal, Greater}
-use Rattle.std.specs.Ordering.{nat_cmp, ordering_then, MatchOrdering}
+use Rattle.std.specs.Ordering.{nat_cmp, is_lt, ordering_then, MatchOrdering}
 use Rattle.std.specs.Cmp.{IsTotalOrder, nat_cmp_is, ranked}
 use Rattle.std.proofs.lemmas.Cmp.{nat_cmp_total, on_total, back_total, then_total}
 use Rattle.std.proofs.lemmas.Map.Lookups.{exact_unsigned}
+use Rattle.std.proofs.lemmas.Bool.{both_ways}
 use Rattle.ikey.specs.Comparator.{IsExact}
 use Rattle.ikey.specs.ShortlexLaws.{both_equal}
 use Rattle.ikey.specs.Key.{kind_number, user_of, tag_of, sequence_of, kind_of, IsInternalKey}
 use Rattle.ikey.specs.Order.{internal_cmp}
 use Rattle.ikey.proofs.Keys.{kind_number-kind_of, same_parts}
+
+-- whether an order answers Less
+pub is_lt-true : (o : Ordering) → is_lt o ≡ true → o ≡ Less
+is_lt-true Less h = refl
+is_lt-true Equal h = absurd cc
+is_lt-true Greater h = absurd cc
+
+pub is_lt-false : (o : Ordering) → is_lt o ≡ false → o ≢ Less
+is_lt-false o h less = both_ways (is_lt o) h (ap is_lt less)
 
 -- two tags are ordered as their high parts and then their low bytes are
 tag_parts : (t u : ℕ) (high low : Ordering) → MatchOrdering high (t / 256 < u / 256) (t / 256 ≡ u / 256) (u / 256 < t / 256) → MatchOrdering low (t % 256 < u % 256) (t % 256 ≡ u % 256) (u % 256 < t % 256) → ordering_then high low ≡ nat_cmp t u

@@ -12,7 +12,7 @@ use Rattle.ikey.specs.Order.{internal_cmp}
 use Rattle.ikey.specs.ShortenedKeys.{shortened_key, internal_separator_of, internal_successor_of}
 use borrow.Author.Tests.{ltb-true}
 use Rattle.ikey.proofs.Keys.{IsInternalKey-internal_key, length-user_of, user_of-internal_key}
-use Rattle.ikey.proofs.Ordered.{internal_cmp-total}
+use Rattle.ikey.proofs.Ordered.{internal_cmp-total, is_lt-true}
 
 -- a lower user key makes a lower internal key
 pub internal_cmp-Less : (cmp : List ℕ → List ℕ → Ordering) (a b : List ℕ) → cmp (user_of a) (user_of b) ≡ Less → internal_cmp cmp a b ≡ Less
@@ -30,11 +30,6 @@ users_rise : (cmp : List ℕ → List ℕ → Ordering) (a b : List ℕ) → int
 unfolding internal_cmp
 users_rise cmp a b h e =
     lower_user (cmp (user_of a) (user_of b)) (ordering_then (nat_cmp (sequence_of b) (sequence_of a)) (nat_cmp (kind_number (kind_of b)) (kind_number (kind_of a)))) h e
-
-is_lt-true : (o : Ordering) → is_lt o ≡ true → o ≡ Less
-is_lt-true Less e = refl
-is_lt-true Equal e = absurd (cc)
-is_lt-true Greater e = absurd (cc)
 
 module _ (cmp : List ℕ → List ℕ → Ordering) (total : IsTotalOrder cmp) where
   not_above_itself : (a : List ℕ) → internal_cmp cmp a a ≢ Greater

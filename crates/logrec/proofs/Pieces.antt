@@ -2,7 +2,7 @@
 use Rattle.std.proofs.Common.{◌≡◌, ℕ, ◌+◌, ◌^◌, ◌<◌, ◌≤◌, ◌⊎◌, Bool, true, false, cond, ltb, eqb, ◌||◌, ◌&&◌, List, ◌∷◌, ◌++◌, length, take, drop, get_or, Result, Ok, Err, refl, sym, ap, subst, ◌∙◌, arith, inl, inr}
 use Rattle.std.proofs.Math.Nat.{mod-lt}
 use Rattle.std.proofs.lemmas.List.{take_at, drop_at, take-append-drop, length-append, length-take-le, length-drop}
-use Rattle.std.proofs.lemmas.Bool.{ltb-false, le-ltb, lt-ltb, ltb-true, eqb-true, eq-eqb}
+use Rattle.std.proofs.lemmas.Bool.{ltb-false, le-ltb, lt-ltb, ltb-true, eqb-true, eq-eqb, and_parts}
 use Rattle.byteorder.specs.Endian.{little_bytes, little_number}
 use Rattle.byteorder.specs.Numbers.{little_number-reads_back}
 use Rattle.coding.specs.Answers.{fault}
@@ -126,11 +126,6 @@ more_is true len h = refl
 more_is false len (inl e) = absurd cc
 more_is false len (inr lt) = lt-ltb 0 len lt
 
-both : (s t : Bool) → (s && t) ≡ true → (s ≡ true) × (t ≡ true)
-both true true e = (refl, refl)
-both true false e = absurd cc
-both false t e = absurd cc
-
 choose : (s t : Bool) (d : Fault) (b : Bool) (P : Bool → Type 0) → (s ≡ true → P true) → (t ≡ true → P false) → cond s (Ok true) (cond t (Ok false) (Err d)) ≡ Ok b → P b
 choose true t d b P last other e = subst P (ok_is true b e) (last refl)
 choose false true d b P last other e = subst P (ok_is false b e) (other refl)
@@ -140,8 +135,8 @@ pub ends_ok : (begins : Bool) (room kind len : ℕ) (b : Bool) → ends_record b
 unfolding ends_record
 ends_ok begins room kind len b e =
     choose (eqb kind (fragment_type begins true) && (begins || ltb 0 len)) (eqb kind (fragment_type begins false) && eqb len room) (fault LogShape) b (Ends begins room kind len)
-    (λ h. let p = both (eqb kind (fragment_type begins true)) (begins || ltb 0 len) h in (eqb-true _ _ p.0, more_of begins len p.1))
-    (λ h. let p = both (eqb kind (fragment_type begins false)) (eqb len room) h in (eqb-true _ _ p.0, eqb-true _ _ p.1))
+    (λ h. let p = and_parts (eqb kind (fragment_type begins true)) (begins || ltb 0 len) h in (eqb-true _ _ p.0, more_of begins len p.1))
+    (λ h. let p = and_parts (eqb kind (fragment_type begins false)) (eqb len room) h in (eqb-true _ _ p.0, eqb-true _ _ p.1))
     e
 
 pub ends_last : (begins : Bool) (room len : ℕ) → HasMore begins len → ends_record begins room (fragment_type begins true) len ≡ Ok true

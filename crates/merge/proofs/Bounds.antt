@@ -14,6 +14,7 @@ use Rattle.ikey.specs.declared.kind.Kind.TheVariants.{Delete, Put}
 use Rattle.table.specs.Key.{user_of, sequence_of, kind_of, kind_number, internal_key}
 use Rattle.table.specs.Order.{internal_cmp}
 use Rattle.table.proofs.Keys.{user_of-internal_key, sequence_of-internal_key, kind_of-internal_key}
+use Rattle.table.proofs.Ordered.{is_lt-true}
 use Rattle.table.specs.EncodedEntry.{Entry}
 use Rattle.table.specs.EntriesFrom.{NeverFalls}
 use Rattle.split.specs.Ranges.{KeyRange}
@@ -76,11 +77,6 @@ module _ (cmp : List ℕ → List ℕ → Ordering) (total : IsTotalOrder cmp) w
   le_lt x y z Equal e h l = total.congr x y z e ∙ l
   le_lt x y z Greater e h l = absurd (false≢true h)
 
-  less_of : (o : Ordering) → is_lt o ≡ true → o ≡ Less
-  less_of Less h = refl
-  less_of Equal h = absurd (false≢true h)
-  less_of Greater h = absurd (false≢true h)
-
   -- what comes after an entry that isn't before a bound isn't either
   stays : (bound : Option (List ℕ)) (otherwise : Bool) (e f : Entry) → is_le (internal_cmp cmp e.key f.key) ≡ true → is_before cmp bound otherwise e ≡ false → is_before cmp bound otherwise f ≡ false
   stays None otherwise e f le h = h
@@ -89,7 +85,7 @@ module _ (cmp : List ℕ → List ℕ → Ordering) (total : IsTotalOrder cmp) w
       by_test : (b : Bool) → is_lt (cmp (user_of f.key) l) ≡ b → is_lt (cmp (user_of f.key) l) ≡ false
       by_test true is =
           absurd (both_ways (is_lt (cmp (user_of e.key) l)) h
-          (ap is_lt (le_lt (user_of e.key) (user_of f.key) l (cmp (user_of e.key) (user_of f.key)) refl (users_le e.key f.key le) (less_of (cmp (user_of f.key) l) is))))
+          (ap is_lt (le_lt (user_of e.key) (user_of f.key) l (cmp (user_of e.key) (user_of f.key)) refl (users_le e.key f.key le) (is_lt-true (cmp (user_of f.key) l) is))))
       by_test false is = is
 
   stay : (bound : Option (List ℕ)) (otherwise : Bool) (e : Entry) (es : List Entry) → AllByRecursion (λ f. is_le (internal_cmp cmp e.key f.key) ≡ true) es → is_before cmp bound otherwise e ≡ false → AllByRecursion (λ f. is_before cmp bound otherwise f ≡ false) es
@@ -151,7 +147,7 @@ then_low Equal x y k l h i e = by_test (nat_lt x y) (nat_eq x y) refl e
     by_test false false is e = absurd cc
 then_low Greater x y k l h i e = e
 
-kind_low : (k : Kind) → kind_number k ≤ 1
+pub kind_low : (k : Kind) → kind_number k ≤ 1
 kind_low Put = omega arith
 kind_low Delete = omega arith
 

@@ -2,26 +2,19 @@
 use Rattle.std.proofs.Common.{◌≡◌, ◌≢◌, ◌⊎◌, ℕ, ◌+◌, ◌-◌, ◌^◌, ◌<◌, ◌≤◌, Bool, true, false, cond, List, [], ◌∷◌, length, map, get_or, set, Some, inl, inr, ⊎_elim, refl, sym, ap, subst, ◌∙◌, arith, length-set, get_or-set_same, get_or-set_other}
 use Rattle.std.specs.Prelude.{slice_get, nat_eq}
 use Rattle.std.specs.Option.{option_map}
-use Rattle.std.specs.Ordering.{nat_cmp, ordering_then}
 use Rattle.std.specs.Cmp.{IsTotalOrder}
 use Rattle.std.specs.declared.cmp.Ordering.{Ordering}
-use Rattle.std.specs.declared.cmp.Ordering.TheVariants.{Less}
 use Rattle.std.proofs.lemmas.Bool.{cases_eq, eqb-true, eqb-false}
 use Rattle.std.proofs.lemmas.List.{length-map, map-set}
 use Rattle.std.proofs.lemmas.Option.{same_Some, none-some}
 use Rattle.table.specs.EncodedEntry.{Entry}
 use Rattle.table.specs.Comparator.{HeadsRise}
-use Rattle.table.specs.Key.{user_of, sequence_of, kind_of, kind_number}
-use Rattle.table.specs.Order.{internal_cmp}
+use Rattle.table.specs.Key.{user_of}
 use Rattle.merge.specs.Tournament.{IsAhead, IsWinner, first_head, AreHeads}
 use Rattle.merge.proofs.Tournaments.{ahead_same}
+use Rattle.ikey.proofs.Shortened.{internal_cmp-Less}
 
 -- ---- matches
-
-user_less : (cmp : List ℕ → List ℕ → Ordering) (a b : List ℕ) → cmp (user_of a) (user_of b) ≡ Less → internal_cmp cmp a b ≡ Less
-unfolding internal_cmp
-user_less cmp a b h =
-    ap (λ (o : Ordering). ordering_then o (ordering_then (nat_cmp (sequence_of b) (sequence_of a)) (nat_cmp (kind_number (kind_of b)) (kind_number (kind_of a))))) h
 
 -- the list with the lower head is ahead
 ahead_by_head : (cmp : List ℕ → List ℕ → Ordering) (head_of : List ℕ → ℕ) → HeadsRise cmp head_of → (place other : ℕ) (list more : List Entry) → first_head head_of list < first_head head_of more → first_head head_of more < 2 ^ 128
@@ -29,7 +22,7 @@ ahead_by_head : (cmp : List ℕ → List ℕ → Ordering) (head_of : List ℕ �
 ahead_by_head cmp head_of rising place other list [] less fits = tt
 ahead_by_head cmp head_of rising place other [] (f ∷ fs) less fits = absurd (omega (arith, less, fits))
 ahead_by_head cmp head_of rising place other (e ∷ es) (f ∷ fs) less fits =
-    inl (user_less cmp e.key f.key (rising (user_of e.key) (user_of f.key) less))
+    inl (internal_cmp-Less cmp e.key f.key (rising (user_of e.key) (user_of f.key) less))
 
 module _ (cmp : List ℕ → List ℕ → Ordering) (total : IsTotalOrder cmp) (head_of : List ℕ → ℕ) (rising : HeadsRise cmp head_of) (lists : List (List Entry)) (best other best_head head : ℕ) (best_is : best_head ≡ first_head head_of (get_or lists best []))
     (is : head ≡ first_head head_of (get_or lists other [])) where

@@ -5,30 +5,19 @@ use Rattle.std.specs.Option.{option_map_or, ForSome}
 use Rattle.std.specs.Ordering.{is_lt}
 use Rattle.std.specs.declared.cmp.Ordering.{Ordering}
 use Rattle.std.specs.declared.cmp.Ordering.TheVariants.{Less, Equal, Greater}
-use Rattle.std.proofs.lemmas.Bool.{and_parts, and_from, false≢true}
+use Rattle.std.proofs.lemmas.Bool.{and_parts, and_from, not-true}
+use Rattle.std.proofs.lemmas.Option.{same_Some}
 use Rattle.merge.specs.InRange.{HoldsLaw}
-
-not_less : (o : Ordering) → not (is_lt o) ≡ true → o ≢ Less
-not_less Less h = λ e. false≢true h
-not_less Equal h = λ e. absurd (cc)
-not_less Greater h = λ e. absurd (cc)
+use Rattle.table.proofs.Ordered.{is_lt-true, is_lt-false}
 
 not_less_back : (o : Ordering) → o ≢ Less → not (is_lt o) ≡ true
 not_less_back Less h = absurd (h refl)
 not_less_back Equal h = refl
 not_less_back Greater h = refl
 
-less_of : (o : Ordering) → is_lt o ≡ true → o ≡ Less
-less_of Less h = refl
-less_of Equal h = absurd (false≢true h)
-less_of Greater h = absurd (false≢true h)
-
-inside : (k x : List ℕ) → Some k ≡ Some x → k ≡ x
-inside k x e = ap (λ (o : Option (List ℕ)). option_map_or (λ (l : List ℕ). l) o k) e
-
 from_of : (cmp : List ℕ → List ℕ → Ordering) (lower : Option (List ℕ)) (user : List ℕ) → option_map_or (λ l. not (is_lt (cmp user l))) lower true ≡ true → ForSome lower (λ l. cmp user l ≢ Less)
 from_of cmp None user h = λ x e. absurd (cc)
-from_of cmp (Some l) user h = λ x e. subst (λ (k : List ℕ). cmp user k ≢ Less) (inside l x e) (not_less (cmp user l) h)
+from_of cmp (Some l) user h = λ x e. subst (λ (k : List ℕ). cmp user k ≢ Less) (same_Some l x e) (is_lt-false (cmp user l) (not-true _ h))
 
 from_back : (cmp : List ℕ → List ℕ → Ordering) (lower : Option (List ℕ)) (user : List ℕ) → ForSome lower (λ l. cmp user l ≢ Less) → option_map_or (λ l. not (is_lt (cmp user l))) lower true ≡ true
 from_back cmp None user h = refl
@@ -36,7 +25,7 @@ from_back cmp (Some l) user h = not_less_back (cmp user l) (h l refl)
 
 before_of : (cmp : List ℕ → List ℕ → Ordering) (upper : Option (List ℕ)) (user : List ℕ) → option_map_or (λ u. is_lt (cmp user u)) upper true ≡ true → ForSome upper (λ u. cmp user u ≡ Less)
 before_of cmp None user h = λ x e. absurd (cc)
-before_of cmp (Some u) user h = λ x e. subst (λ (k : List ℕ). cmp user k ≡ Less) (inside u x e) (less_of (cmp user u) h)
+before_of cmp (Some u) user h = λ x e. subst (λ (k : List ℕ). cmp user k ≡ Less) (same_Some u x e) (is_lt-true (cmp user u) h)
 
 before_back : (cmp : List ℕ → List ℕ → Ordering) (upper : Option (List ℕ)) (user : List ℕ) → ForSome upper (λ u. cmp user u ≡ Less) → option_map_or (λ u. is_lt (cmp user u)) upper true ≡ true
 before_back cmp None user h = refl

@@ -12,11 +12,11 @@ use Rattle.std.proofs.lemmas.Bool.{false≢true}
 use Rattle.std.proofs.lemmas.Option.{same_Some, none-some, slice_get-map, slice_get_read, slice_get_within, get_or_from_slice_get}
 use Rattle.table.specs.EncodedEntry.{Entry}
 use Rattle.table.specs.Order.{internal_cmp}
-use Rattle.table.proofs.Ordered.{internal_cmp-total}
+use Rattle.table.proofs.Ordered.{internal_cmp-total, is_lt-true}
 use Rattle.table.specs.EntriesFrom.{NeverFalls}
 use Rattle.merge.specs.MergedLists.{merged}
 use Rattle.merge.specs.LeastList.{StartsAbove, StartsFrom, IsLeast, IsAdvanced, IsLeastPlace, IsMerging}
-use Rattle.merge.proofs.Orders.{all_weaker, all_append, less_is, lt_le_trans, at_most}
+use Rattle.merge.proofs.Orders.{all_weaker, all_append, lt_le_trans, at_most}
 use Rattle.merge.proofs.Merges.{merged_first, merged_none}
 
 -- ---- lists at places
@@ -168,7 +168,7 @@ finds_lesser cmp total lists place other list old key old_key h k falls m first 
     let f = first_of list key first in
     let old_is = old_key_is cmp lists place other old old_key m.least k old_first in
     let lt : internal_cmp cmp f.first.key m.least.first.key ≡ Less =
-    ap (λ (a : List ℕ). internal_cmp cmp a m.least.first.key) f.key_is ∙ ap (internal_cmp cmp key) old_is ∙ less_is (internal_cmp cmp key old_key) below in
+    ap (λ (a : List ℕ). internal_cmp cmp a m.least.first.key) f.key_is ∙ ap (internal_cmp cmp key) old_is ∙ is_lt-true (internal_cmp cmp key old_key) below in
     step cmp lists place list (Some place) h (more_lists cmp (take place lists) list (Some other) (Some place) m falls (
     subst (λ (l : List Entry). IsLeast cmp (take place lists ++ l ∷ []) place) (sym f.same)
     (subst (IsLeast cmp (take place lists ++ (f.first ∷ f.others) ∷ [])) (length_front lists place list h)

@@ -11,10 +11,10 @@ use Rattle.std.proofs.lemmas.Option.{same_Some, none-some}
 use Rattle.table.specs.EncodedEntry.{Entry}
 use Rattle.table.specs.Order.{internal_cmp}
 use Rattle.table.specs.EntriesFrom.{entries_from, LeavesFrom}
+use Rattle.table.proofs.Ordered.{is_lt-true}
+use Rattle.table.proofs.ReadBack.{all_split}
 use Rattle.merge.specs.MergedLists.{entries_with, sorted_entries, entries_of_lists, merged}
 use Rattle.merge.specs.LeastList.{IsAdvanced}
-use Rattle.merge.specs.Seeks.{each_from, EachLeavesFrom}
-use Rattle.merge.proofs.Orders.{less_is}
 use Rattle.merge.proofs.SortedEntries.{filter-sorted}
 use Rattle.merge.specs.CursorsLeft.{LosesOnly, EachLosesOnly, LosesFirst, EachLosesFirst}
 use Rattle.merge.specs.FirstEntry.{first_is}
@@ -151,23 +151,13 @@ module _ (cmp : List ℕ → List ℕ → Ordering) (target : List ℕ) (Fits : 
   leaves_sought (e ∷ es) fs fit h =
       ⊎_elim (λ off. inl (gone e fit.0 off.0, leaves_sought es fs fit.1 off.1)) (λ stays. inr (stays.0, (stays.1.0, leaves_sought es stays.0 fit.1 stays.1.1))) h
 
-  pub each_leaves_sought : (olds news : List (List Entry)) → AllByRecursion (λ list. AllByRecursion Fits list) olds → EachLeavesFrom cmp target olds news → EachLosesOnly test olds news
-  each_leaves_sought [] [] fit h = tt
-  each_leaves_sought [] (n ∷ news) fit h = absurd h
-  each_leaves_sought (o ∷ olds) [] fit h = absurd h
-  each_leaves_sought (o ∷ olds) (n ∷ news) fit h = (leaves_sought o n fit.0 h.0, each_leaves_sought olds news fit.1 h.1)
-
   pub leaves_from : (es : List Entry) → AllByRecursion Fits es → LosesOnly test es (entries_from cmp target es)
   leaves_from [] fit = refl
   leaves_from (e ∷ es) fit = by_test (is_lt (internal_cmp cmp e.key target)) refl (leaves_from es fit.1)
     where
       by_test : (b : Bool) → is_lt (internal_cmp cmp e.key target) ≡ b → LosesOnly test es (entries_from cmp target es) → LosesOnly test (e ∷ es) (cond b (entries_from cmp target es) (e ∷ es))
-      by_test true is more = inl (gone e fit.0 (less_is (internal_cmp cmp e.key target) is), more)
+      by_test true is more = inl (gone e fit.0 (is_lt-true (internal_cmp cmp e.key target) is), more)
       by_test false is more = inr (es, (refl, leaves_all test es))
-
-  pub each_leaves_from : (lists : List (List Entry)) → AllByRecursion (λ list. AllByRecursion Fits list) lists → EachLosesOnly test lists (each_from cmp target lists)
-  each_leaves_from [] fit = tt
-  each_leaves_from (l ∷ ls) fit = (leaves_from l fit.0, each_leaves_from ls fit.1)
 
 -- ---- a step
 
@@ -256,13 +246,9 @@ all_sorted_back : (P : Entry → Type 0) (cmp : List ℕ → List ℕ → Orderi
 all_sorted_back P cmp [] h = tt
 all_sorted_back P cmp (e ∷ es) h = let both = all_with_back P cmp e (sorted_entries cmp es) h in (both.0, all_sorted_back P cmp es both.1)
 
-all_left : (P : Entry → Type 0) (xs ys : List Entry) → AllByRecursion P (xs ++ ys) → AllByRecursion P xs × AllByRecursion P ys
-all_left P [] ys h = (tt, h)
-all_left P (x ∷ xs) ys h = let both = all_left P xs ys h.1 in ((h.0, both.0), both.1)
-
 all_joined_back : (P : Entry → Type 0) (lists : List (List Entry)) → AllByRecursion P (entries_of_lists lists) → AllByRecursion (λ list. AllByRecursion P list) lists
 all_joined_back P [] h = tt
-all_joined_back P (l ∷ ls) h = let both = all_left P l (entries_of_lists ls) h in (both.0, all_joined_back P ls both.1)
+all_joined_back P (l ∷ ls) h = let both = all_split P l (entries_of_lists ls) h in (both.0, all_joined_back P ls both.1)
 
 pub all_merged_back : (P : Entry → Type 0) (cmp : List ℕ → List ℕ → Ordering) (lists : List (List Entry)) → AllByRecursion P (merged cmp lists) → AllByRecursion (λ list. AllByRecursion P list) lists
 all_merged_back P cmp lists h = all_joined_back P lists (all_sorted_back P cmp (entries_of_lists lists) h)

@@ -13,5 +13,4 @@ pub mod InRange
 pub mod LeftEntries
 pub mod Bounds
 pub mod Sought
-pub mod TableBytes
 pub mod Reaching

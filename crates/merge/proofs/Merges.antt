@@ -67,7 +67,7 @@ merged_first cmp total lists place falls least =
 
 -- ---- no entry at all
 
-joined_none : (lists : List (List Entry)) → AllByRecursion (λ list. list ≡ []) lists → entries_of_lists lists ≡ []
+pub joined_none : (lists : List (List Entry)) → AllByRecursion (λ list. list ≡ []) lists → entries_of_lists lists ≡ []
 joined_none [] h = refl
 joined_none (l ∷ ls) h = ap (λ (es : List Entry). es ++ entries_of_lists ls) h.0 ∙ joined_none ls h.1
 

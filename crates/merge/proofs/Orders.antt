@@ -32,11 +32,6 @@ all_drop P (suc n) (x ∷ xs) h = all_drop P n xs h.1
 
 -- ---- orders
 
-pub less_is : (o : Ordering) → is_lt o ≡ true → o ≡ Less
-less_is Less h = refl
-less_is Equal h = absurd cc
-less_is Greater h = absurd cc
-
 -- what is at or before another isn't after it
 not_behind : (o : Ordering) → is_le o ≡ true → is_lt (ordering_reverse o) ≡ false
 not_behind Less h = refl
@@ -85,9 +80,6 @@ Above cmp key e = internal_cmp cmp key e.key ≡ Less
 -- an entry isn't below this internal key
 abbrev pub From : (List ℕ → List ℕ → Ordering) → List ℕ → Entry → Type 0
 From cmp key e = is_le (internal_cmp cmp key e.key) ≡ true
-
-pub above_from : (cmp : List ℕ → List ℕ → Ordering) (key : List ℕ) (es : List Entry) → AllByRecursion (Above cmp key) es → AllByRecursion (From cmp key) es
-above_from cmp key es h = all_weaker (Above cmp key) (From cmp key) (λ e below. ap is_le below) es h
 
 -- what never falls and starts at or above a key is wholly there
 pub from_first : (cmp : List ℕ → List ℕ → Ordering) → IsTotalOrder cmp → (key : List ℕ) (e : Entry) (es : List Entry) → From cmp key e → AllByRecursion (From cmp e.key) es → AllByRecursion (From cmp key) es

@@ -1,13 +1,13 @@
 -- What tables have in a range, and cursors over those that reach into it.
 use Rattle.std.proofs.Common.{◌≡◌, ℕ, ◌+◌, ◌-◌, ◌<◌, Bool, true, false, cond, List, [], ◌∷◌, ◌++◌, map, take, length, get_or, Some, None, Option, Ok, refl, sym, ap, subst, ◌∙◌}
-use Rattle.std.specs.Prelude.{◌&&◌, not, slice_get}
+use Rattle.std.specs.Prelude.{not, slice_get}
 use Rattle.std.specs.List.{AllByRecursion}
 use Rattle.std.specs.Option.{option_map, option_map_or}
 use Rattle.std.specs.Ordering.{is_lt}
 use Rattle.std.specs.Cmp.{IsTotalOrder}
 use Rattle.std.specs.declared.cmp.Ordering.{Ordering}
-use Rattle.std.proofs.lemmas.Bool.{false≢true}
-use Rattle.std.proofs.lemmas.List.{map_push, take_more}
+use Rattle.std.proofs.lemmas.Bool.{false≢true, and_right}
+use Rattle.std.proofs.lemmas.List.{map_push, take_more, append-nil}
 use Rattle.std.proofs.lemmas.Option.{same_Some}
 use Rattle.table.proofs.Binds.{bind_ok, ok_is}
 use Rattle.table.specs.Answers.{◌>>=◌}
@@ -53,13 +53,9 @@ table_never_falls cmp total bytes t h =
 -- ---- a list that doesn't reach into a range
 
 module _ (cmp : List ℕ → List ℕ → Ordering) (total : IsTotalOrder cmp) (range : KeyRange) where
-  and_false : (b c : Bool) → c ≡ false → (b && c) ≡ false
-  and_false true c h = h
-  and_false false c h = refl
-
   -- what isn't before the upper bound isn't in the range
   behind_apart : (e : Entry) → is_before cmp range.upper true e ≡ false → is_in_range cmp range (user_of e.key) ≡ false
-  behind_apart e h = and_false (option_map_or (λ lower. not (is_lt (cmp (user_of e.key) lower))) range.lower true) (is_before cmp range.upper true e) h
+  behind_apart e h = and_right (option_map_or (λ lower. not (is_lt (cmp (user_of e.key) lower))) range.lower true) (is_before cmp range.upper true e) h
 
   none_of : (es : List Entry) → AllByRecursion (λ e. is_in_range cmp range (user_of e.key) ≡ false) es → entries_in cmp range es ≡ []
   none_of [] h = refl
@@ -122,16 +118,12 @@ module _ (cmp : List ℕ → List ℕ → Ordering) (total : IsTotalOrder cmp) (
       by_test true same = ap (λ (zs : List Entry). x ∷ zs) same
       by_test false same = same
 
-  append_none : (xs : List Entry) → xs ++ [] ≡ xs
-  append_none [] = refl
-  append_none (x ∷ xs) = ap (λ (ys : List Entry). x ∷ ys) (append_none xs)
-
   append_join : (xs ys zs : List Entry) → (xs ++ ys) ++ zs ≡ xs ++ (ys ++ zs)
   append_join [] ys zs = refl
   append_join (x ∷ xs) ys zs = ap (λ (ws : List Entry). x ∷ ws) (append_join xs ys zs)
 
   joined_pushed : (lists : List (List Entry)) (l : List Entry) → entries_of_lists (lists ++ l ∷ []) ≡ entries_of_lists lists ++ l
-  joined_pushed [] l = append_none l
+  joined_pushed [] l = append-nil l
   joined_pushed (x ∷ xs) l = ap (λ (es : List Entry). x ++ es) (joined_pushed xs l) ∙ sym (append_join x (entries_of_lists xs) l)
 
   -- one list more
@@ -140,7 +132,7 @@ module _ (cmp : List ℕ → List ℕ → Ordering) (total : IsTotalOrder cmp) (
 
   -- a list that has nothing in the range
   pub in_left_out : (lists : List (List Entry)) (l : List Entry) → entries_in cmp range l ≡ [] → entries_in cmp range (entries_of_lists lists) ≡ entries_in cmp range (entries_of_lists lists) ++ entries_in cmp range l
-  in_left_out lists l none = sym (ap (λ (es : List Entry). entries_in cmp range (entries_of_lists lists) ++ es) none ∙ append_none (entries_in cmp range (entries_of_lists lists)))
+  in_left_out lists l none = sym (ap (λ (es : List Entry). entries_in cmp range (entries_of_lists lists) ++ es) none ∙ append-nil (entries_in cmp range (entries_of_lists lists)))
 
 -- one more of a list, as it is seen
 pub map_next : {X Y : Type 0} (f : X → Y) (xs : List X) (i : ℕ) (x : X) → i < length xs → x ≡ get_or xs i x → map f (take (i + 1) xs) ≡ map f (take i xs) ++ f x ∷ []

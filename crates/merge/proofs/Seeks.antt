@@ -1,16 +1,15 @@
 -- A seek of one list after the other.
-use Rattle.std.proofs.Common.{◌≡◌, ℕ, ◌≤◌, Bool, true, false, cond, List, [], ◌∷◌, ◌++◌, length, take, drop, set, suc, zero, Some, inl, inr, refl, sym, ap, subst, ◌∙◌}
+use Rattle.std.proofs.Common.{◌≡◌, ℕ, Bool, true, false, cond, List, [], ◌∷◌, ◌++◌, take, drop, set, suc, zero, Some, inl, inr, refl, sym, ap, subst}
 use Rattle.std.specs.Prelude.{slice_get}
 use Rattle.std.specs.Ordering.{is_lt}
 use Rattle.std.specs.declared.cmp.Ordering.{Ordering}
-use Rattle.std.proofs.lemmas.List.{append-nil, take_all, drop_all}
 use Rattle.std.proofs.lemmas.Option.{same_Some, none-some}
 use Rattle.table.specs.EncodedEntry.{Entry}
 use Rattle.table.specs.Order.{internal_cmp}
 use Rattle.table.specs.EntriesFrom.{entries_from, LeavesFrom}
 use Rattle.table.proofs.Orders.{leaves_all}
+use Rattle.table.proofs.Ordered.{is_lt-true}
 use Rattle.merge.specs.Seeks.{each_from, EachLeavesFrom}
-use Rattle.merge.proofs.Orders.{less_is}
 
 -- lists of which the first `number` have been sought
 abbrev pub sought : (List ℕ → List ℕ → Ordering) → List ℕ → ℕ → List (List Entry) → List (List Entry)
@@ -22,18 +21,12 @@ sought_next cmp target [] (suc place) list h = absurd (none-some list h)
 sought_next cmp target (l ∷ ls) zero list h = ap (λ (es : List Entry). entries_from cmp target es ∷ ls) (sym (same_Some l list h))
 sought_next cmp target (l ∷ ls) (suc place) list h = ap (λ (rest : List (List Entry)). entries_from cmp target l ∷ rest) (sought_next cmp target ls place list h)
 
-pub sought_all : (cmp : List ℕ → List ℕ → Ordering) (target : List ℕ) (lists : List (List Entry)) (number : ℕ) → length lists ≤ number → sought cmp target number lists ≡ each_from cmp target lists
-sought_all cmp target lists number all =
-    ap (λ (ls : List (List Entry)). each_from cmp target ls ++ drop number lists) (take_all number lists all)
-    ∙ ap (λ (ls : List (List Entry)). each_from cmp target lists ++ ls) (drop_all number lists all)
-    ∙ append-nil (each_from cmp target lists)
-
 leaves_from : (cmp : List ℕ → List ℕ → Ordering) (target : List ℕ) (es : List Entry) → LeavesFrom cmp target es (entries_from cmp target es)
 leaves_from cmp target [] = refl
 leaves_from cmp target (e ∷ es) = by_test (is_lt (internal_cmp cmp e.key target)) refl (leaves_from cmp target es)
   where
     by_test : (b : Bool) → is_lt (internal_cmp cmp e.key target) ≡ b → LeavesFrom cmp target es (entries_from cmp target es) → LeavesFrom cmp target (e ∷ es) (cond b (entries_from cmp target es) (e ∷ es))
-    by_test true is more = inl (less_is (internal_cmp cmp e.key target) is, more)
+    by_test true is more = inl (is_lt-true (internal_cmp cmp e.key target) is, more)
     by_test false is more = inr (es, (refl, leaves_all cmp target es))
 
 each_leaves_all : (cmp : List ℕ → List ℕ → Ordering) (target : List ℕ) (lists : List (List Entry)) → EachLeavesFrom cmp target lists lists

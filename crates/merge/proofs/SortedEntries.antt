@@ -9,8 +9,9 @@ use Rattle.std.specs.declared.cmp.Ordering.TheVariants.{Less}
 use Rattle.table.specs.EncodedEntry.{Entry}
 use Rattle.table.specs.Order.{internal_cmp}
 use Rattle.table.specs.EntriesFrom.{NeverFalls, entries_from, LeavesFrom}
+use Rattle.table.proofs.Ordered.{is_lt-true}
 use Rattle.merge.specs.MergedLists.{entries_with, sorted_entries}
-use Rattle.merge.proofs.Orders.{Above, From, less_is, not_below, at_most, from_first}
+use Rattle.merge.proofs.Orders.{Above, From, not_below, at_most, from_first}
 
 -- ---- what holds of all entries
 
@@ -49,7 +50,7 @@ with_never_falls cmp total e [] h = (tt, tt)
 with_never_falls cmp total e (f ∷ fs) h = by_test (is_lt (internal_cmp cmp f.key e.key)) refl (with_never_falls cmp total e fs h.1)
   where
     by_test : (b : Bool) → is_lt (internal_cmp cmp f.key e.key) ≡ b → NeverFalls cmp (entries_with cmp e fs) → NeverFalls cmp (cond b (f ∷ entries_with cmp e fs) (e ∷ (f ∷ fs)))
-    by_test true is more = (all_with (From cmp f.key) cmp e fs (ap is_le (less_is (internal_cmp cmp f.key e.key) is)) h.0, more)
+    by_test true is more = (all_with (From cmp f.key) cmp e fs (ap is_le (is_lt-true (internal_cmp cmp f.key e.key) is)) h.0, more)
     by_test false is more =
         let le = at_most cmp total e.key f.key is in
         ((le, from_first cmp total e.key f fs le h.0), h)
@@ -86,7 +87,7 @@ filter-with cmp total test e (f ∷ fs) h = by_test (is_lt (internal_cmp cmp f.k
         → filter test (cond b (f ∷ entries_with cmp e fs) (e ∷ (f ∷ fs))) ≡ cond (test e) (entries_with cmp e (cond (test f) (f ∷ others) others)) (cond (test f) (f ∷ others) others)
     by_test true is more =
         ap (λ (es : List Entry). cond (test f) (f ∷ es) es) more
-        ∙ passed (test f) (test e) (less_is (internal_cmp cmp f.key e.key) is)
+        ∙ passed (test f) (test e) (is_lt-true (internal_cmp cmp f.key e.key) is)
     by_test false is more =
         let le = at_most cmp total e.key f.key is in
         let ahead = all_filter (From cmp e.key) test (f ∷ fs) (le, from_first cmp total e.key f fs le h.0) in

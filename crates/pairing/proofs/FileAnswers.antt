@@ -73,14 +73,6 @@ pub joined_answer : (qa qb : List Entry) (answers : List (Result (List Entry) Fa
 joined_answer qa qb answers runs r holds same given =
     holds_from (λ v. tested_entries v.items) r (Ok (entries_of_lists runs)) (IsUnionAnswer qa qb) given (subst (IsUnionAnswer qa qb) (ap (λ (r : Result (List (List Entry)) Fault). r >>= λ runs. Ok (entries_of_lists runs)) same) holds)
 
--- the first file is refused
-pub first_refused : (a b : List ℕ) (e : Fault) → UnlessMemory e (IsFileAnswer a (Err e)) → UnlessMemory e (IsBlocksAnswer a b (Err e))
-first_refused a b e h = unless_from e (IsFileAnswer a (Err e)) (IsBlocksAnswer a b (Err e)) (λ f. (Err e, (f, refl))) h
-
--- the second file is refused
-pub second_refused : (a b : List ℕ) (qa : List Entry) (e : Fault) → IsFileAnswer a (Ok qa) → UnlessMemory e (IsFileAnswer b (Err e)) → UnlessMemory e (IsBlocksAnswer a b (Err e))
-second_refused a b qa e first h = unless_from e (IsFileAnswer b (Err e)) (IsBlocksAnswer a b (Err e)) (λ f. (Ok qa, (first, (Err e, (f, refl))))) h
-
 -- there is no union
 pub union_refused : (a b : List ℕ) (qa qb : List Entry) (e : Fault) → IsFileAnswer a (Ok qa) → IsFileAnswer b (Ok qb) → UnlessMemory e (IsUnionAnswer qa qb (Err e)) → UnlessMemory e (IsBlocksAnswer a b (Err e))
 union_refused a b qa qb e first second h = unless_from e (IsUnionAnswer qa qb (Err e)) (IsBlocksAnswer a b (Err e)) (λ f. (Ok qa, (first, (Ok qb, (second, (Err e, (f, refl))))))) h

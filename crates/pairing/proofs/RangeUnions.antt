@@ -15,6 +15,7 @@ use Rattle.ikey.specs.Answers.{fault, ◌>>=◌}
 use Rattle.ikey.specs.fault.Fault.{Fault}
 use Rattle.ikey.specs.fault.FaultName.TheVariants.{Duplicate}
 use Rattle.ikey.proofs.Binds.{bind_ok, ok_is, done}
+use Rattle.ikey.proofs.Ordered.{is_lt-true}
 use Rattle.block.specs.EncodedEntry.{Entry}
 use Rattle.ikey.specs.Bytewise.{bytewise_cmp}
 use Rattle.ikey.specs.Key.{user_of, sequence_of, kind_of, kind_number}
@@ -28,7 +29,7 @@ use Rattle.pairing.specs.TestedUnion.{IsLimited, distinct_after, is_after_key, l
 use Rattle.pairing.specs.Repeats.{HasRepeat}
 use Rattle.pairing.specs.declared.tested_entry.TestedEntry.{TestedEntry}
 use Rattle.pairing.proofs.TestedLists.{with_front, regroup, last_key-push}
-use Rattle.pairing.proofs.Unions.{version_total, all_append, all_weaker, guard, Below}
+use Rattle.pairing.proofs.Unions.{version_total, all_append, all_weaker, Below}
 use Rattle.pairing.proofs.Repeats.{version, times-cons, repeat_moved}
 
 -- ---- a merge moves entries only
@@ -72,7 +73,7 @@ distinct_rises before (e ∷ es) u h =
     let a = passed (is_after_key (Some before) e.key) (distinct_after (Some e.key) es >>= λ others. Ok (e ∷ others)) (fault Duplicate) u h in
     let b = bind_ok (distinct_after (Some e.key) es) (λ others. Ok (e ∷ others)) u a.1 in
     let rest = distinct_rises e.key es b.0 b.1 in
-    let up : version before e.key ≡ Less = guard (version before e.key) a.0 in
+    let up : version before e.key ≡ Less = is_lt-true (version before e.key) a.0 in
     ((up, all_weaker (Below version e.key) (Below version before) (λ f g. version_total.trans before e.key f.key up g) es rest.0), rest)
 
 rises : (es u : List Entry) → distinct_after None es ≡ Ok u → VersionsRise bytewise_cmp es

@@ -2,8 +2,7 @@
 use Rattle.std.proofs.Common.{◌≡◌, ℕ, suc, ◌+◌, ◌%◌, Bool, true, false, cond, nat_lt, List, [], ◌∷◌, ◌++◌, ◌<◌, ◌-◌, length, get_or, drop, Option, Some, None, Result, Ok, Err, refl, sym, ap, ◌∙◌, append_assoc, drop-cons, arith}
 use Rattle.std.proofs.lemmas.List.{append-nil}
 use Rattle.std.specs.List.{slice_get}
-use Rattle.std.specs.Option.{option_map}
-use Rattle.std.proofs.lemmas.Option.{same_Some, none-some, slice_get_within, get_or_from_slice_get}
+use Rattle.std.proofs.lemmas.Option.{slice_get_within, get_or_from_slice_get}
 use Rattle.ikey.proofs.Binds.{bind_ok, done, ok_is}
 use Rattle.ikey.specs.Answers.{EqualOrMemory, fault, ◌>>=◌}
 use Rattle.ikey.specs.fault.Fault.{Fault}
@@ -32,12 +31,6 @@ pub regroup : (front : List Entry) (e : Entry) (tested : Result (List Entry) Fau
 regroup front e (Ok es) = ap (λ (xs : List Entry). Ok xs) (sym (append_assoc front (e ∷ []) es))
 regroup front e (Err f) = refl
 
--- the first entry of a list, by its key and its value
-pub first_entry : (q : List Entry) (key value : List ℕ) → option_map (λ e. e.key) (slice_get q 0) ≡ Some key → option_map (λ e. e.value) (slice_get q 0) ≡ Some value → q ≡ record { key = key; value = value } ∷ drop 1 q
-first_entry [] key value k v = absurd (none-some key k)
-first_entry (e ∷ q) key value k v =
-    ap (λ (x : List ℕ). record { key = x; value = e.value } ∷ q) (same_Some _ _ k) ∙ ap (λ (x : List ℕ). record { key = key; value = x } ∷ q) (same_Some _ _ v)
-
 pub goes_on : (front q : List Entry) (key value internal : List ℕ) (total : Result (List Entry) Fault) → q ≡ record { key = key; value = value } ∷ drop 1 q → Ok internal ≡ file_entry_test (last_key_or None front) key value
     → with_front front (tested_after (last_key_or None front) q) ≡ total → with_front (front ++ record { key = key; value = value } ∷ []) (tested_after (last_key_or None (front ++ record { key = key; value = value } ∷ [])) (drop 1 q)) ≡ total
 goes_on front q key value internal total first passed so_far =
@@ -54,10 +47,6 @@ ends front q key value f total first failed so_far =
     let one : tested_after (last_key_or None front) q ≡ Err f =
     ap (tested_after (last_key_or None front)) first ∙ ap (λ (r : Result (List ℕ) Fault). r >>= λ k. tested_after (Some key) (drop 1 q) >>= λ es. Ok (e ∷ es)) (sym failed) in
     sym so_far ∙ ap (with_front front) one
-
-pub is_done : (front q : List Entry) (total : Result (List Entry) Fault) → length q ≡ 0 → with_front front (tested_after (last_key_or None front) q) ≡ total → total ≡ Ok front
-is_done front [] total none so_far = sym so_far ∙ ap (λ (es : List Entry). Ok es) (append-nil front)
-is_done front (e ∷ q) total none so_far = absurd (omega arith)
 
 -- the last element of a longer list
 pub get_or-cons : (t : TestedEntry) (ts : List TestedEntry) (d : TestedEntry) → 0 < length ts → get_or (t ∷ ts) (length (t ∷ ts) - 1) d ≡ get_or ts (length ts - 1) d

@@ -5,7 +5,7 @@ use Rattle.std.specs.List.Sorted.{IsPermutation}
 use Rattle.std.specs.Prelude.{IfOk}
 use Rattle.std.specs.Global.{Vec}
 use Rattle.std.specs.Cmp.{IsTotalOrder}
-use Rattle.std.specs.Ordering.{nat_cmp, ordering_then, ordering_reverse, is_lt}
+use Rattle.std.specs.Ordering.{nat_cmp, ordering_then, ordering_reverse}
 use Rattle.std.specs.declared.cmp.Ordering.{Ordering}
 use Rattle.std.specs.declared.cmp.Ordering.TheVariants.{Less, Equal, Greater}
 use Rattle.std.proofs.lemmas.Cmp.{nat_cmp_total, nat_list_cmp_total, on_total, then_total, back_total}
@@ -24,7 +24,7 @@ use Rattle.ikey.specs.Answers.{EqualOrMemory, fault, ◌>>=◌}
 use Rattle.ikey.specs.fault.Fault.{Fault}
 use Rattle.ikey.specs.fault.FaultName.TheVariants.{TooLarge, Order}
 use Rattle.ikey.specs.Order.{internal_cmp}
-use Rattle.ikey.proofs.Ordered.{internal_cmp-total}
+use Rattle.ikey.proofs.Ordered.{internal_cmp-total, is_lt-true}
 use Rattle.merge.specs.Union.{key_version_cmp, IsUnion, VersionsRise}
 use Rattle.table.specs.EntriesFrom.{EntriesRise, NeverFalls}
 use Rattle.table.specs.EntryTests.{is_above}
@@ -64,11 +64,6 @@ rising_append (x ∷ xs) ys h q each = (all_append (Below (key_version_cmp bytew
 abbrev accepted : List ℕ → Result (List ℕ) Fault
 accepted key = Ok key
 
-pub guard : (b : Ordering) → is_lt b ≡ true → b ≡ Less
-guard Less h = refl
-guard Equal h = absurd cc
-guard Greater h = absurd cc
-
 passed_above : (t s : Bool) (d e : Fault) (key internal : List ℕ) → cond t (Err d) (cond s (Ok key) (Err e)) ≡ accepted internal → s ≡ true
 passed_above true s d e key internal h = absurd cc
 passed_above false true d e key internal h = refl
@@ -78,7 +73,7 @@ passed_above false false d e key internal h = absurd cc
 above_before : (before key value internal : List ℕ) → file_entry_test (Some before) key value ≡ Ok internal → internal_cmp bytewise_cmp before key ≡ Less
 above_before before key value internal h =
     let a = bind_ok (internal_key_reading key) _ internal h in
-    guard (internal_cmp bytewise_cmp before key) (passed_above (nat_lt 16777215 (length value)) (is_above bytewise_cmp (Some before) key) (fault TooLarge) (fault Order) a.0 internal a.2)
+    is_lt-true (internal_cmp bytewise_cmp before key) (passed_above (nat_lt 16777215 (length value)) (is_above bytewise_cmp (Some before) key) (fault TooLarge) (fault Order) a.0 internal a.2)
 
 rising_after : (before : List ℕ) (q es : List Entry) → tested_after (Some before) q ≡ Ok es → AllByRecursion (Below (internal_cmp bytewise_cmp) before) q × EntriesRise bytewise_cmp q
 rising_after before [] es h = (tt, tt)

@@ -1,12 +1,9 @@
 -- What tests of bytes say.
-use Rattle.std.proofs.Common.{◌≡◌, ℕ, Bool, true, false, not, List, refl, sym, ap, ◌∙◌}
+use Rattle.std.proofs.Common.{◌≡◌, ℕ, Bool, true, false, not, List, sym, ap, ◌∙◌}
 use Rattle.std.specs.Prelude.{◌≢◌, nat_eq}
 use Rattle.std.specs.Cmp.Lexicographic.{pointwise}
 use Rattle.std.proofs.lemmas.Slice.Eq.{bytes_eq-Decides}
-
-not_false : (b : Bool) → not b ≡ false → b ≡ true
-not_false true e = refl
-not_false false e = absurd cc
+use Rattle.std.proofs.lemmas.Bool.{not-false}
 
 pub bytes_differ : (a b : List ℕ) (r : Bool) → r ≡ not (pointwise nat_eq a b) → r ≡ true → a ≢ b
 bytes_differ a b r is h e =
@@ -14,4 +11,4 @@ bytes_differ a b r is h e =
     let both : true ≡ false = sym h ∙ is ∙ ap not same in absurd cc
 
 pub bytes_same : (a b : List ℕ) (r : Bool) → r ≡ not (pointwise nat_eq a b) → r ≡ false → a ≡ b
-bytes_same a b r is h = (bytes_eq-Decides a b).0 (not_false (pointwise nat_eq a b) (sym is ∙ h))
+bytes_same a b r is h = (bytes_eq-Decides a b).0 (not-false (pointwise nat_eq a b) (sym is ∙ h))

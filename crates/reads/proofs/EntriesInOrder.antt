@@ -1,5 +1,5 @@
 -- Entries of lists, taken off in the order of their keys.
-use Rattle.std.proofs.Common.{◌≡◌, ℕ, zero, suc, ◌<◌, ◌≤◌, Bool, true, false, leb, ◌&&◌, List, [], ◌∷◌, ◌++◌, take, drop, set, get_or, Some, None, refl, sym, ap, subst, ◌∙◌, inl, inr, add-one, arith}
+use Rattle.std.proofs.Common.{◌≡◌, ℕ, zero, suc, ◌<◌, ◌≤◌, Bool, true, false, List, [], ◌∷◌, ◌++◌, take, drop, set, get_or, Some, None, refl, sym, ap, subst, ◌∙◌, inl, inr, add-one, arith}
 use Rattle.std.specs.Prelude.{◌⊎◌, Contains, slice_get, ◌||◌, nat_lt, nat_le}
 use Rattle.std.specs.List.{AllByRecursion}
 use Rattle.std.specs.Option.{option_map}
@@ -8,8 +8,8 @@ use Rattle.std.specs.Ordering.{nat_cmp, ordering_then, ordering_reverse, is_le}
 use Rattle.std.specs.Str.{bytes_eq}
 use Rattle.std.specs.declared.cmp.Ordering.{Ordering}
 use Rattle.std.specs.declared.cmp.Ordering.TheVariants.{Less, Equal, Greater}
-use Rattle.std.proofs.lemmas.Bool.{cases_lt}
-use Rattle.std.proofs.lemmas.Bool.Decides.{leb_tells, Decides-ltb}
+use Rattle.std.proofs.lemmas.Bool.{cases_lt, or_cases, or_left, or_right, and_parts, and_from, leb-true, le-leb}
+use Rattle.std.proofs.lemmas.Bool.Decides.{Decides-ltb}
 use Rattle.std.proofs.lemmas.Cmp.{tied_itself}
 use Rattle.std.proofs.lemmas.List.Elements.{All-contains, Contains-get_or, Contains-append_left, Contains-append_right, Contains-append_cases}
 use Rattle.std.proofs.lemmas.Option.{same_Some, none-some}
@@ -22,7 +22,7 @@ use Rattle.table.specs.EncodedEntry.{Entry}
 use Rattle.table.specs.EntriesFrom.{NeverFalls}
 use Rattle.merge.specs.MergedLists.{entries_of_lists, merged}
 use Rattle.merge.specs.LeastList.{StartsAbove, StartsFrom, IsLeast, IsAdvanced, IsMerging}
-use Rattle.merge.proofs.Merges.{joined_at, joined_set, one_of, merged_first}
+use Rattle.merge.proofs.Merges.{joined_at, joined_set, one_of, merged_first, joined_none}
 use Rattle.merge.proofs.Orders.{le_trans}
 use Rattle.reads.specs.FileChecks.{steps_back}
 use Rattle.reads.specs.TableOrder.{IsNewerIn, AreFallingIn}
@@ -132,10 +132,6 @@ module _ (cmp : List ℕ → List ℕ → Ordering) (total : IsTotalOrder cmp) (
 
 -- ---- lists, and one that loses its first entry
 
-joined_none : (lists : List (List Entry)) → AllByRecursion (λ list. list ≡ []) lists → entries_of_lists lists ≡ []
-joined_none [] h = refl
-joined_none (l ∷ ls) h = ap (λ (es : List Entry). es ++ entries_of_lists ls) h.0 ∙ joined_none ls h.1
-
 in_joined : (lists : List (List Entry)) (place : ℕ) (list : List Entry) (e : Entry) → slice_get lists place ≡ Some list → Contains list e → Contains (entries_of_lists lists) e
 in_joined [] place list e h at = absurd (none-some list h)
 in_joined (l ∷ ls) zero list e h at = Contains-append_left l (entries_of_lists ls) e (subst (λ (x : List Entry). Contains x e) (sym (same_Some l list h)) at)
@@ -233,43 +229,17 @@ module _ (cmp : List ℕ → List ℕ → Ordering) (total : IsTotalOrder cmp) (
 
   -- ---- the test
 
-  leb_back : (a b : ℕ) → (leb a b ≡ true → a ≤ b) × (a ≤ b → leb a b ≡ true)
-  leb_back a b = (λ e. elim (leb_tells a b) [ inl h ↦ h.1 | inr h ↦ absurd (clash e h.0) ], λ le. elim (leb_tells a b) [ inl h ↦ h.0 | inr h ↦ absurd (omega (arith, h.1)) ])
-    where
-      clash : leb a b ≡ true → leb a b ≡ false → ⊥
-      clash e f = let both : true ≡ false = sym e ∙ f in absurd cc
-
   -- the next entry is of the user key, and comes of a list before or isn't older
   abbrev StepsBack : List ℕ → ℕ → List ℕ → ℕ → Type 0
   StepsBack last place key next = (user_of key ≡ user_of last) × ((next < place) ⊎ (sequence_of last ≤ sequence_of key))
 
-  or_true : (a b : Bool) → (a || b) ≡ true → (a ≡ true) ⊎ (b ≡ true)
-  or_true true b e = inl refl
-  or_true false b e = inr e
-
-  or_left : (a b : Bool) → a ≡ true → (a || b) ≡ true
-  or_left true b e = refl
-  or_left false b e = absurd cc
-
-  or_right : (a b : Bool) → b ≡ true → (a || b) ≡ true
-  or_right true b e = refl
-  or_right false b e = e
-
-  and_true : (a b : Bool) → (a && b) ≡ true → (a ≡ true) × (b ≡ true)
-  and_true true b e = (refl, e)
-  and_true false b e = absurd cc
-
-  and_both : (a b : Bool) → a ≡ true → b ≡ true → (a && b) ≡ true
-  and_both true b e f = f
-  and_both false b e f = absurd cc
-
   pub back_true : (last : List ℕ) (place : ℕ) (key : List ℕ) (next : ℕ) → steps_back last place key next ≡ true → StepsBack last place key next
   back_true last place key next e =
-      let both = and_true (bytes_eq (user_of key) (user_of last)) (nat_lt next place || nat_le (sequence_of last) (sequence_of key)) e in (
+      let both = and_parts (bytes_eq (user_of key) (user_of last)) (nat_lt next place || nat_le (sequence_of last) (sequence_of key)) e in (
         (bytes_eq-Decides (user_of key) (user_of last)).0 both.0,
-        elim (or_true (nat_lt next place) (nat_le (sequence_of last) (sequence_of key)) both.1) [
+        elim (or_cases (nat_lt next place) (nat_le (sequence_of last) (sequence_of key)) both.1) [
           | inl lt ↦ inl ((Decides-ltb next place).0 lt)
-          | inr le ↦ inr ((leb_back (sequence_of last) (sequence_of key)).0 le)
+          | inr le ↦ inr (leb-true (sequence_of last) (sequence_of key) le)
         ],
       )
 
@@ -277,9 +247,9 @@ module _ (cmp : List ℕ → List ℕ → Ordering) (total : IsTotalOrder cmp) (
   back_false last place key next f h =
       let second : (nat_lt next place || nat_le (sequence_of last) (sequence_of key)) ≡ true = elim h.1 [
         | inl lt ↦ or_left (nat_lt next place) (nat_le (sequence_of last) (sequence_of key)) ((Decides-ltb next place).1 lt)
-        | inr le ↦ or_right (nat_lt next place) (nat_le (sequence_of last) (sequence_of key)) ((leb_back (sequence_of last) (sequence_of key)).1 le)
+        | inr le ↦ or_right (nat_lt next place) (nat_le (sequence_of last) (sequence_of key)) (le-leb (sequence_of last) (sequence_of key) le)
       ] in
-      let both : true ≡ false = sym (and_both (bytes_eq (user_of key) (user_of last)) (nat_lt next place || nat_le (sequence_of last) (sequence_of key)) ((bytes_eq-Decides (user_of key) (user_of last)).1 h.0) second) ∙ f in
+      let both : true ≡ false = sym (and_from (bytes_eq (user_of key) (user_of last)) (nat_lt next place || nat_le (sequence_of last) (sequence_of key)) ((bytes_eq-Decides (user_of key) (user_of last)).1 h.0) second) ∙ f in
       absurd cc
 
   -- ---- the walk

@@ -3,7 +3,7 @@ use Rattle.std.proofs.Common.{◌≡◌, ℕ, ◌<◌, ◌≤◌, Bool, true, fa
 use Rattle.std.specs.Prelude.{◌⊎◌, Contains, nat_le}
 use Rattle.std.specs.List.{AllByRecursion, filter, find}
 use Rattle.std.specs.Option.{option_and_then}
-use Rattle.std.proofs.lemmas.Bool.Decides.{nat_tests}
+use Rattle.std.proofs.lemmas.Bool.{leb-true, le-leb}
 use Rattle.ikey.specs.Key.{sequence_of}
 use Rattle.table.specs.EncodedEntry.{Entry}
 use Rattle.reads.specs.Gets.{is_visible, newest_entry, value_in}
@@ -46,12 +46,6 @@ same_of_falling (e ∷ es) falls a b i j same = by_place (first_or_later e es a 
 abbrev sees : ℕ → Entry → Bool
 sees at e = nat_le (sequence_of e.key) at
 
-seen_low : (m n : ℕ) → nat_le m n ≡ true → m ≤ n
-seen_low m n h = grind (arith, nat_tests)
-
-low_seen : (m n : ℕ) → m ≤ n → nat_le m n ≡ true
-low_seen m n h = grind (arith, nat_tests)
-
 -- the first that a sequence sees is there, and no other that it sees is newer
 abbrev IsFirst : List Entry → ℕ → Option Entry → Type 0
 IsFirst es at None = (e : Entry) → Contains es e → sequence_of e.key ≤ at → ⊥
@@ -60,7 +54,7 @@ IsFirst es at (Some x) = Contains es x × (sequence_of x.key ≤ at) × ((e : En
 seen_by : (e : Entry) (es : List Entry) (at : ℕ) (o : Option Entry) → SequencesFall (e ∷ es) → IsFirst es at o → (b : Bool) → sees at e ≡ b → IsFirst (e ∷ es) at (cond b (Some e) o)
 seen_by e es at o falls first true h = (
   first_in e es,
-  seen_low (sequence_of e.key) at h,
+  leb-true (sequence_of e.key) at h,
   λ f there low. elim (first_or_later e es f there) [
     | inl same ↦ let is : sequence_of f.key ≡ sequence_of e.key = ap (λ (z : Entry). sequence_of z.key) same in omega arith
     | inr later ↦ let lt = each_of (λ (z : Entry). sequence_of z.key < sequence_of e.key) es falls.0 f later in omega arith
@@ -72,7 +66,7 @@ seen_by e es at None falls first false h = λ f there low. elim (first_or_later 
 ]
   where
     unseen : (x : Entry) → sees at x ≡ false → sequence_of x.key ≤ at → ⊥
-    unseen x k le = let both : true ≡ false = sym (low_seen (sequence_of x.key) at le) ∙ k in absurd cc
+    unseen x k le = let both : true ≡ false = sym (le-leb (sequence_of x.key) at le) ∙ k in absurd cc
 seen_by e es at (Some x) falls first false h = (
   later_in e es x first.0,
   first.1,
@@ -83,7 +77,7 @@ seen_by e es at (Some x) falls first false h = (
 )
   where
     unseen : (x : Entry) → sees at x ≡ false → sequence_of x.key ≤ at → ⊥
-    unseen x k le = let both : true ≡ false = sym (low_seen (sequence_of x.key) at le) ∙ k in absurd cc
+    unseen x k le = let both : true ≡ false = sym (le-leb (sequence_of x.key) at le) ∙ k in absurd cc
 
 first_seen : (es : List Entry) (at : ℕ) → SequencesFall es → IsFirst es at (find (sees at) es)
 first_seen [] at falls = λ e there low. none_in e there

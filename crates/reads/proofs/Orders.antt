@@ -8,10 +8,11 @@ use Rattle.std.specs.declared.cmp.Ordering.TheVariants.{Less, Equal, Greater}
 use Rattle.std.proofs.lemmas.Cmp.{tied_itself}
 use Rattle.ikey.specs.Comparator.{IsExact}
 use Rattle.ikey.specs.Key.{kind_number, user_of, sequence_of, kind_of}
-use Rattle.ikey.specs.declared.kind.Kind.{Kind}
-use Rattle.ikey.specs.declared.kind.Kind.TheVariants.{Put, Delete}
+use Rattle.ikey.specs.declared.kind.Kind.TheVariants.{Put}
 use Rattle.ikey.specs.Order.{internal_cmp}
 use Rattle.ikey.proofs.Shortened.{internal_cmp-Less}
+use Rattle.ikey.proofs.Ordered.{is_lt-false}
+use Rattle.merge.proofs.Bounds.{kind_low}
 
 pub less_is : (x y : ℕ) → nat_cmp x y ≡ Less → x < y
 less_is x y e = subst (λ (o : Ordering). MatchOrdering o (x < y) (x ≡ y) (y < x)) e (ranked x y (nat_cmp x y) refl)
@@ -23,15 +24,6 @@ then_less : (a b : Ordering) → ordering_then a b ≡ Less → (a ≡ Less) ⊎
 then_less Less b e = inl refl
 then_less Equal b e = inr (refl, e)
 then_less Greater b e = absurd cc
-
-not_less : (o : Ordering) → is_lt o ≡ false → o ≡ Less → ⊥
-not_less Less e f = absurd cc
-not_less Equal e f = absurd cc
-not_less Greater e f = absurd cc
-
-few_kinds : (k : Kind) → kind_number k ≤ 1
-few_kinds Put = omega arith
-few_kinds Delete = omega arith
 
 module _ (cmp : List ℕ → List ℕ → Ordering) (total : IsTotalOrder cmp) where
   tied : (k m : List ℕ) → user_of k ≡ user_of m → cmp (user_of k) (user_of m) ≡ Equal
@@ -58,7 +50,7 @@ module _ (cmp : List ℕ → List ℕ → Ordering) (total : IsTotalOrder cmp) w
   before_put k t put below same le =
       elim (parts k t same below) [
         | inl lt ↦ absurd (omega arith)
-        | inr e ↦ let one : kind_number (kind_of t) ≡ 1 = ap kind_number put in absurd (omega (arith, few_kinds (kind_of k)))
+        | inr e ↦ let one : kind_number (kind_of t) ≡ 1 = ap kind_number put in absurd (omega (arith, kind_low (kind_of k)))
       ]
 
   -- a key of a greater sequence is before one of its user key
@@ -72,7 +64,7 @@ module _ (cmp : List ℕ → List ℕ → Ordering) (total : IsTotalOrder cmp) w
   not_before k t not_below same = by_order (nat_cmp (sequence_of t) (sequence_of k)) (ranked (sequence_of t) (sequence_of k) (nat_cmp (sequence_of t) (sequence_of k)) refl)
     where
       by_order : (o : Ordering) → MatchOrdering o (sequence_of t < sequence_of k) (sequence_of t ≡ sequence_of k) (sequence_of k < sequence_of t) → sequence_of k ≤ sequence_of t
-      by_order Less lt = absurd (not_less (internal_cmp cmp k t) not_below (newer_before k t same lt))
+      by_order Less lt = absurd (is_lt-false (internal_cmp cmp k t) not_below (newer_before k t same lt))
       by_order Equal e = omega arith
       by_order Greater lt = omega arith
 
@@ -108,7 +100,7 @@ module _ (cmp : List ℕ → List ℕ → Ordering) (total : IsTotalOrder cmp) w
     other_user k m t not_below other below same = by_order (cmp (user_of k) (user_of t)) refl
       where
         by_order : (o : Ordering) → cmp (user_of k) (user_of t) ≡ o → ⊥
-        by_order Less e = not_less (internal_cmp cmp k t) not_below (internal_cmp-Less cmp k t e)
+        by_order Less e = is_lt-false (internal_cmp cmp k t) not_below (internal_cmp-Less cmp k t e)
         by_order Equal e = other (exact (user_of k) (user_of t) e)
         by_order Greater e =
             let before : cmp (user_of t) (user_of k) ≡ Less = total.antisymm (user_of t) (user_of k) ∙ ap ordering_reverse e in

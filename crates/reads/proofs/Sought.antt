@@ -5,13 +5,14 @@ use Rattle.std.specs.Option.{option_map}
 use Rattle.std.specs.Cmp.{IsTotalOrder}
 use Rattle.std.specs.Ordering.{is_lt}
 use Rattle.std.specs.declared.cmp.Ordering.{Ordering}
-use Rattle.std.specs.declared.cmp.Ordering.TheVariants.{Less, Equal, Greater}
+use Rattle.std.specs.declared.cmp.Ordering.TheVariants.{Less}
 use Rattle.std.proofs.lemmas.List.Elements.{All-from_recursion, All-contains}
 use Rattle.ikey.specs.Comparator.{IsExact}
 use Rattle.ikey.specs.Key.{user_of, sequence_of, kind_of}
 use Rattle.ikey.specs.declared.kind.Kind.{Kind}
 use Rattle.ikey.specs.declared.kind.Kind.TheVariants.{Put}
 use Rattle.ikey.specs.Order.{internal_cmp}
+use Rattle.ikey.proofs.Ordered.{is_lt-true}
 use Rattle.table.specs.EncodedEntry.{Entry}
 use Rattle.table.specs.EntriesFrom.{EntriesRise, entries_from}
 use Rattle.reads.specs.Visible.{VisibleEntry, visible_of, IsVisible, IsAnswer}
@@ -24,11 +25,6 @@ above_first cmp e es f rising at =
     let P : Entry → Type 0 = λ x. internal_cmp cmp e.key x.key ≡ Less in
     All-contains P es f (All-from_recursion P es rising.0) at
 
-lt_is : (o : Ordering) → is_lt o ≡ true → o ≡ Less
-lt_is Less e = refl
-lt_is Equal e = absurd cc
-lt_is Greater e = absurd cc
-
 seen_is : (e : Entry) (sequence : ℕ) (kind : Kind) (value : List ℕ) → sequence_of e.key ≡ sequence → kind_of e.key ≡ kind → e.value ≡ value → visible_of e ≡ record { sequence = sequence; kind = kind; value = value }
 seen_is e sequence kind value n k v = cc
 
@@ -40,7 +36,7 @@ module _ (cmp : List ℕ → List ℕ → Ordering) (total : IsTotalOrder cmp) (
   kept_by : (e : Entry) (es : List Entry) (x : Entry) (b : Bool) → is_lt (internal_cmp cmp e.key t) ≡ b → IsSought x → (x ≡ e) ⊎ Contains es x → (Contains es x → Contains (entries_from cmp t es) x)
       → Contains (cond b (entries_from cmp t es) (e ∷ es)) x
   kept_by e es x true passed seen (inl same) rest =
-      let below : internal_cmp cmp x.key t ≡ Less = ap (λ (y : Entry). internal_cmp cmp y.key t) same ∙ lt_is (internal_cmp cmp e.key t) passed in
+      let below : internal_cmp cmp x.key t ≡ Less = ap (λ (y : Entry). internal_cmp cmp y.key t) same ∙ is_lt-true (internal_cmp cmp e.key t) passed in
       absurd (before_put cmp total x.key t put below seen.0 seen.1)
   kept_by e es x true passed seen (inr later) rest = rest later
   kept_by e es x false stays seen (inl same) rest = subst (Contains (e ∷ es)) (sym same) (first_in e es)

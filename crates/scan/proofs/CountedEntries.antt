@@ -5,6 +5,7 @@ use Rattle.std.specs.List.{count_by}
 use Rattle.std.specs.Ordering.{is_lt}
 use Rattle.std.specs.declared.cmp.Ordering.{Ordering}
 use Rattle.std.proofs.lemmas.List.Sums.{get_or-le-sum_by, sum_by-append, sum_by-cons}
+use Rattle.std.proofs.Math.Bool.{and-true}
 use Rattle.table.specs.Key.{kind_of}
 use Rattle.table.specs.Order.{internal_cmp}
 use Rattle.block.specs.EncodedEntry.{Entry}
@@ -133,14 +134,10 @@ one_more n = omega arith
 pub counted_cons : (hidden : Entry → Bool) (e : Entry) (es : List Entry) → counted hidden (e ∷ es) ≡ amounts_plus (entry_amounts (kind_of e.key) (hidden e)) (counted hidden es)
 counted_cons hidden e es = same_amounts (counted hidden (e ∷ es)) (amounts_plus (entry_amounts (kind_of e.key) (hidden e)) (counted hidden es)) refl refl (one_more (length es)) (count_cons is_deletion_entry e es) (count_cons hidden e es)
 
-and_true : (b : Bool) → (b && true) ≡ b
-and_true true = refl
-and_true false = refl
-
 -- the amounts of those that are kept
 pub counted_filter : (test hidden : Entry → Bool) (es : List Entry) → counted hidden (filter test es) ≡ tally test hidden es
 counted_filter test hidden es = same_amounts (counted hidden (filter test es)) (tally test hidden es) refl refl
-    (length_is (filter test es) ∙ count_filter test every es ∙ count_same (λ e. test e && every e) test es (λ e at. and_true (test e))) (count_filter test is_deletion_entry es) (count_filter test hidden es)
+    (length_is (filter test es) ∙ count_filter test every es ∙ count_same (λ e. test e && every e) test es (λ e at. and-true (test e))) (count_filter test is_deletion_entry es) (count_filter test hidden es)
 
 -- all pass the test
 pub tally_all : (test hidden : Entry → Bool) (es : List Entry) → ((e : Entry) → test e ≡ true) → tally test hidden es ≡ counted hidden es

@@ -10,11 +10,7 @@ use Rattle.table.specs.Key.{user_of}
 use Rattle.block.specs.EncodedEntry.{Entry}
 use Rattle.reads.specs.Ranges.{KeyRange}
 use Rattle.merge.specs.InRange.{entries_in, is_in_range}
-use Rattle.checks.proofs.CommonRanges.{less_is, not_less}
-
-pub is_not : (b : Bool) → not b ≡ true → b ≡ false
-is_not true h = absurd cc
-is_not false h = refl
+use Rattle.folder.proofs.Ordered.{is_lt-true, is_lt-false}
 
 module _ (cmp : List ℕ → List ℕ → Ordering) (total : IsTotalOrder cmp) (lower upper : List ℕ) (apart : is_lt (cmp lower upper) ≡ false) where
   -- what is before the upper bound is before the lower one
@@ -22,12 +18,12 @@ module _ (cmp : List ℕ → List ℕ → Ordering) (total : IsTotalOrder cmp) (
   below user before = by (cmp lower user) refl
     where
       by : (o : Ordering) → cmp lower user ≡ o → is_lt (cmp user lower) ≡ true
-      by Less is = absurd (not_less (cmp lower upper) apart (total.trans lower user upper is before))
-      by Equal is = absurd (not_less (cmp lower upper) apart (total.congr lower user upper is ∙ before))
+      by Less is = absurd (is_lt-false (cmp lower upper) apart (total.trans lower user upper is before))
+      by Equal is = absurd (is_lt-false (cmp lower upper) apart (total.congr lower user upper is ∙ before))
       by Greater is = ap is_lt (total.antisymm user lower ∙ ap ordering_reverse is)
 
   none_by : (user : List ℕ) (b : Bool) → is_lt (cmp user upper) ≡ b → (not (is_lt (cmp user lower)) && b) ≡ false
-  none_by user true h = ap (λ (b : Bool). not b && true) (below user (less_is (cmp user upper) h))
+  none_by user true h = ap (λ (b : Bool). not b && true) (below user (is_lt-true (cmp user upper) h))
   none_by user false h = by (not (is_lt (cmp user lower)))
     where
       by : (b : Bool) → (b && false) ≡ false

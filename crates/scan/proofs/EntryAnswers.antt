@@ -1,6 +1,6 @@
 -- The rows of sorted entries are what the entries of each user key answer.
 use Rattle.std.proofs.Common.{◌≡◌, ℕ, Bool, true, false, cond, not, List, [], ◌∷◌, ◌++◌, Option, Some, None, refl, sym, ap, subst, ◌∙◌, inl, inr}
-use Rattle.std.specs.Prelude.{◌⊎◌, ◌||◌, Contains, nat_le, filter, find}
+use Rattle.std.specs.Prelude.{◌⊎◌, Contains, nat_le, filter, find}
 use Rattle.std.specs.Option.{option_and_then}
 use Rattle.std.specs.Str.{bytes_eq}
 use Rattle.std.specs.Cmp.{IsTotalOrder}
@@ -10,6 +10,7 @@ use Rattle.std.specs.declared.cmp.Ordering.TheVariants.{Less, Equal, Greater}
 use Rattle.std.proofs.lemmas.List.Elements.{Contains-append_right, Contains-append_cases}
 use Rattle.std.proofs.lemmas.Option.{none-some, same_Some}
 use Rattle.std.proofs.lemmas.Slice.Eq.{bytes_eq-Decides}
+use Rattle.std.proofs.lemmas.Bool.{false_from_ne_true, or_cases, or_parts, not-true, not-false, both_ways}
 use Rattle.table.specs.Comparator.{IsExact}
 use Rattle.table.specs.Key.{user_of, sequence_of, kind_of, kind_number}
 use Rattle.table.specs.Order.{internal_cmp}
@@ -26,31 +27,6 @@ use Rattle.reads.proofs.Pairs.{Pairs}
 use Rattle.scan.specs.Row.{Row}
 use Rattle.scan.specs.EntryRows.{is_decided, is_passed_over, rows_after, rows_by}
 
--- ---- tests
-
-false_of : (b : Bool) → (b ≡ true → ⊥) → b ≡ false
-false_of true h = absurd (h refl)
-false_of false h = refl
-
-not_both : (b : Bool) → b ≡ true → b ≡ false → ⊥
-not_both b t f = let both : true ≡ false = sym t ∙ f in absurd cc
-
-either : (a b : Bool) → (a || b) ≡ true → (a ≡ true) ⊎ (b ≡ true)
-either true b h = inl refl
-either false b h = inr h
-
-neither : (a b : Bool) → (a || b) ≡ false → (a ≡ false) × (b ≡ false)
-neither true b h = absurd cc
-neither false b h = (refl, h)
-
-is_not : (b : Bool) → not b ≡ true → b ≡ false
-is_not true h = absurd cc
-is_not false h = refl
-
-isnt_not : (b : Bool) → not b ≡ false → b ≡ true
-isnt_not true h = refl
-isnt_not false h = absurd cc
-
 -- whether an entry is of a user key
 abbrev pub is_of : List ℕ → Entry → Bool
 is_of user e = bytes_eq (user_of e.key) user
@@ -65,7 +41,7 @@ decided_is : (decided user : List ℕ) → bytes_eq decided user ≡ true → de
 decided_is decided user h = (bytes_eq-Decides decided user).0 h
 
 isnt_decided : (decided user : List ℕ) → bytes_eq decided user ≡ false → decided ≡ user → ⊥
-isnt_decided decided user h same = not_both (bytes_eq decided user) ((bytes_eq-Decides decided user).1 same) h
+isnt_decided decided user h same = both_ways (bytes_eq decided user) h ((bytes_eq-Decides decided user).1 same)
 
 -- ---- what the entries of a user key answer
 
@@ -82,7 +58,7 @@ module _ (at : ℕ) where
   -- without an entry of another user key
   other_same : (user : List ℕ) (e : Entry) (es : List Entry) → (user_of e.key ≡ user → ⊥) → answer_of user (e ∷ es) ≡ answer_of user es
   other_same user e es isnt =
-      let other : is_of user e ≡ false = false_of (is_of user e) (λ h. isnt (of_user user e h)) in
+      let other : is_of user e ≡ false = false_from_ne_true (is_of user e) (λ h. isnt (of_user user e h)) in
       ap (λ (b : Bool). answer_at at (cond b (e ∷ own user es) (own user es))) other
 
   -- without an entry that the sequence doesn't see
@@ -149,8 +125,8 @@ module _ (cmp : List ℕ → List ℕ → Ordering) (total : IsTotalOrder cmp) (
 
   -- of a user key above the decided one, the entries of that one answer nothing
   passed_same : (decided : Option (List ℕ)) (key : List ℕ) (e : Entry) (es : List Entry) → IsAbove decided key → is_passed_over at decided e ≡ true → answer_of at key (e ∷ es) ≡ answer_of at key es
-  passed_same decided key e es above is = elim (either (not (nat_le (sequence_of e.key) at)) (is_decided decided (user_of e.key)) is) [
-    | inl unseen ↦ unseen_same at key e es (is_not (nat_le (sequence_of e.key) at) unseen)
+  passed_same decided key e es above is = elim (or_cases (not (nat_le (sequence_of e.key) at)) (is_decided decided (user_of e.key)) is) [
+    | inl unseen ↦ unseen_same at key e es (not-true (nat_le (sequence_of e.key) at) unseen)
     | inr same ↦ other_same at key e es (by decided above same)
   ]
     where
@@ -191,9 +167,9 @@ module _ (cmp : List ℕ → List ℕ → Ordering) (total : IsTotalOrder cmp) (
       let h = same r there in
       later_row decided e es r h.0 (passed_same decided r.key e es h.0 is) h.1
   each_by decided e es false is up same other r there =
-      let parts = neither (not (nat_le (sequence_of e.key) at)) (is_decided decided (user_of e.key)) is in
+      let parts = or_parts (not (nat_le (sequence_of e.key) at)) (is_decided decided (user_of e.key)) is in
       elim (Contains-append_cases (rows_by (kind_of e.key) (user_of e.key) e.value) (rows_after at (Some (user_of e.key)) es) r there) [
-        | inl here ↦ here_by (kind_of e.key) decided e es refl up parts.1 (isnt_not (nat_le (sequence_of e.key) at) parts.0) r here
+        | inl here ↦ here_by (kind_of e.key) decided e es refl up parts.1 (not-false (nat_le (sequence_of e.key) at) parts.0) r here
         | inr later ↦
             let h = other r later in
             later_row decided e es r (above_later decided (user_of e.key) r.key up h.0)
@@ -239,8 +215,8 @@ module _ (cmp : List ℕ → List ℕ → Ordering) (total : IsTotalOrder cmp) (
   told_by Delete key value held rows is = absurd (none-some value is)
 
   passed_other : (decided : Option (List ℕ)) (key : List ℕ) (e : Entry) (es : List Entry) → IsOther decided key → is_passed_over at decided e ≡ true → answer_of at key (e ∷ es) ≡ answer_of at key es
-  passed_other decided key e es other is = elim (either (not (nat_le (sequence_of e.key) at)) (is_decided decided (user_of e.key)) is) [
-    | inl unseen ↦ unseen_same at key e es (is_not (nat_le (sequence_of e.key) at) unseen)
+  passed_other decided key e es other is = elim (or_cases (not (nat_le (sequence_of e.key) at)) (is_decided decided (user_of e.key)) is) [
+    | inl unseen ↦ unseen_same at key e es (not-true (nat_le (sequence_of e.key) at) unseen)
     | inr same ↦ other_same at key e es (by decided other same)
   ]
     where
@@ -258,12 +234,12 @@ module _ (cmp : List ℕ → List ℕ → Ordering) (total : IsTotalOrder cmp) (
       by : (c : Bool) → is_of key e ≡ c → Contains (rows_by (kind_of e.key) (user_of e.key) e.value ++ rows_after at (Some (user_of e.key)) es) (row key value)
       by true own_key =
           let equal : user_of e.key ≡ key = of_user key e own_key in
-          let parts = neither (not (nat_le (sequence_of e.key) at)) (is_decided decided (user_of e.key)) is in
-          let held : value_by (kind_of e.key) e.value ≡ Some value = sym (seen_first at key e es equal (isnt_not (nat_le (sequence_of e.key) at) parts.0)) ∙ answered in
+          let parts = or_parts (not (nat_le (sequence_of e.key) at)) (is_decided decided (user_of e.key)) is in
+          let held : value_by (kind_of e.key) e.value ≡ Some value = sym (seen_first at key e es equal (not-false (nat_le (sequence_of e.key) at) parts.0)) ∙ answered in
           subst (λ (k : List ℕ). Contains (rows_by (kind_of e.key) (user_of e.key) e.value ++ rows_after at (Some (user_of e.key)) es) (row k value)) equal
           (told_by (kind_of e.key) (user_of e.key) value e.value (rows_after at (Some (user_of e.key)) es) held)
       by false not_own =
-          let isnt : user_of e.key ≡ key → ⊥ = λ equal. not_both (is_of key e) (user_is key e equal) not_own in
+          let isnt : user_of e.key ≡ key → ⊥ = λ equal. both_ways (is_of key e) not_own (user_is key e equal) in
           Contains-append_right (rows_by (kind_of e.key) (user_of e.key) e.value) (rows_after at (Some (user_of e.key)) es) (row key value)
           (next isnt (sym (other_same at key e es isnt) ∙ answered))
 

@@ -30,7 +30,7 @@ use Rattle.scan.specs.Row.{Row}
 use Rattle.scan.specs.Rows.{AreRows}
 use Rattle.scan.specs.EntryRows.{file_rows, rows_after, rows_from}
 use Rattle.scan.proofs.EntryAnswers.{IsBelow, all_rows, answer_of, each_row, is_of, of_user, own, rising_rows, user_is}
-use Rattle.scan.proofs.SortedNewer.{distinct_filter, from_sorted, in_sorted, newer_sorted, own_fall}
+use Rattle.scan.proofs.SortedNewer.{distinct_filter, from_sorted, in_sorted, newer_sorted, own_fall, newer_distinct}
 use Rattle.scan.proofs.VersionFiles.{from_standing, to_standing}
 
 -- ---- rows of a kind of user keys
@@ -70,11 +70,6 @@ module _ (cmp : List ℕ → List ℕ → Ordering) (answers : List ℕ → Opti
   }
 
 -- ---- one range
-
-newer_distinct : (a b : Entry) → IsNewer a b → AreDistinct a b
-newer_distinct a b newer same tie =
-    let lt = newer same in
-    absurd (omega (arith, lt, tie))
 
 module _ (cmp : List ℕ → List ℕ → Ordering) (total : IsTotalOrder cmp) (exact : IsExact cmp) (v : State) (tables : List NumberedContents) (at : ℕ) where
   abbrev get : List ℕ → Option (List ℕ)

@@ -1,6 +1,7 @@
 -- What a step gives, and what it hands on.
 use Rattle.std.proofs.Common.{◌≡◌, ◌⊎◌, ℕ, Result, Ok, Err, IfErr, IsErrAnd, sym, ap, subst, inl, inr}
 use Rattle.table.proofs.Refusals.{unless}
+use Rattle.table.proofs.Binds.{done, failed}
 use Rattle.table.specs.Answers.{UnlessMemory, fault}
 use Rattle.table.specs.fault.Fault.{Fault}
 use Rattle.table.specs.fault.FaultName.{FaultName}
@@ -8,12 +9,6 @@ use Rattle.table.specs.fault.FaultName.TheVariants as name
 use Rattle.folder.specs.OpenAnswer.{FolderAnswers, HasDeviceFailed, IsStopped}
 use Rattle.scan.specs.Excuses.{Gives, IsExcuse}
 use Rattle.scan.specs.SearchAnswers.{Refuses}
-
-abbrev done : {A : Type 0} → A → Result A Fault
-done x = Ok x
-
-abbrev refusal : {A : Type 0} → Fault → Result A Fault
-refusal e = Err e
 
 -- a refusal that `?` hands on
 pub handed : {X : Type 0} (r : Result X Fault) (e : Fault) (P : X → Type 0) → IsErrAnd r (λ f. f ≡ e) → IsExcuse e → Gives r P
@@ -37,5 +32,5 @@ answers view before now (Ok x) y device h = value_of h
     value_of : view x ≡ y → done (view x) ≡ done y
     value_of is = cc
 answers {Y = Y} view before now (Err e) y device (inl is) =
-    unless e (IsStopped before now e ⊎ (refusal {A = Y} e ≡ done y)) (inl (is, device (ap (λ (f : Fault). f.name) is)))
-answers {Y = Y} view before now (Err e) y device (inr is) = subst (λ (f : Fault). UnlessMemory f (IsStopped before now f ⊎ (refusal {A = Y} f ≡ done y))) (sym is) tt
+    unless e (IsStopped before now e ⊎ (failed {A = Y} e ≡ done y)) (inl (is, device (ap (λ (f : Fault). f.name) is)))
+answers {Y = Y} view before now (Err e) y device (inr is) = subst (λ (f : Fault). UnlessMemory f (IsStopped before now f ⊎ (failed {A = Y} f ≡ done y))) (sym is) tt

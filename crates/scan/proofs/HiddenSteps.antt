@@ -7,11 +7,12 @@ use Rattle.std.specs.Ordering.{is_le}
 use Rattle.std.specs.Str.{bytes_eq}
 use Rattle.std.specs.declared.cmp.Ordering.{Ordering}
 use Rattle.std.specs.declared.cmp.Ordering.TheVariants.{Less}
-use Rattle.std.proofs.lemmas.Bool.{eq-eqb}
+use Rattle.std.proofs.lemmas.Bool.{eq-eqb, false_from_ne_true, and_right, and_from, or_cases, or_parts, not-true, not-false, both_ways}
 use Rattle.std.proofs.lemmas.Bool.Decides.{Decides-ltb}
 use Rattle.std.proofs.lemmas.List.Elements.{Contains-append_cases, Contains-append_left, Contains-append_right, Contains-get_or, filter-append}
 use Rattle.std.proofs.lemmas.List.Folds.{list_any-append, list_any_none}
 use Rattle.std.proofs.lemmas.Slice.Eq.{bytes_eq-Decides}
+use Rattle.std.proofs.Math.Bool.{or-false, or-true}
 use Rattle.table.specs.Comparator.{IsExact}
 use Rattle.table.specs.Key.{sequence_of, user_of}
 use Rattle.table.specs.Order.{internal_cmp}
@@ -27,48 +28,6 @@ use Rattle.scan.specs.HiddenEntries.{hides, is_hidden_among}
 use Rattle.scan.proofs.CountedEntries.{count_middle, count_some, one_if}
 use Rattle.scan.proofs.EntryAnswers.{users_up}
 
--- ---- tests
-
-false_of : (b : Bool) → (b ≡ true → ⊥) → b ≡ false
-false_of true h = absurd (h refl)
-false_of false h = refl
-
-and_false : (a b : Bool) → b ≡ false → (a && b) ≡ false
-and_false true b h = h
-and_false false b h = refl
-
-and_both : (a b : Bool) → a ≡ true → b ≡ true → (a && b) ≡ true
-and_both true b h k = k
-and_both false b h k = absurd cc
-
-either : (a b : Bool) → (a || b) ≡ true → (a ≡ true) ⊎ (b ≡ true)
-either true b h = inl refl
-either false b h = inr h
-
-neither : (a b : Bool) → (a || b) ≡ false → (a ≡ false) × (b ≡ false)
-neither true b h = absurd cc
-neither false b h = (refl, h)
-
-is_not : (b : Bool) → not b ≡ true → b ≡ false
-is_not true h = absurd cc
-is_not false h = refl
-
-isnt_not : (b : Bool) → not b ≡ false → b ≡ true
-isnt_not true h = refl
-isnt_not false h = absurd cc
-
-apart : (b : Bool) → b ≡ true → b ≡ false → ⊥
-apart true h k = absurd cc
-apart false h k = absurd cc
-
-or_none : (b : Bool) → (b || false) ≡ b
-or_none true = refl
-or_none false = refl
-
-or_true : (b : Bool) → (b || true) ≡ true
-or_true true = refl
-or_true false = refl
-
 -- ---- what hides what
 
 module _ (last : ℕ) where
@@ -77,14 +36,14 @@ module _ (last : ℕ) where
   other_hides e f other = ap (λ (b : Bool). b && (nat_lt (sequence_of f.key) (sequence_of e.key) && nat_le (sequence_of e.key) last)) other
 
   unseen_hides : (e f : Entry) → nat_le (sequence_of e.key) last ≡ false → hides last e f ≡ false
-  unseen_hides e f unseen = and_false (bytes_eq (user_of e.key) (user_of f.key)) _ (and_false (nat_lt (sequence_of f.key) (sequence_of e.key)) (nat_le (sequence_of e.key) last) unseen)
+  unseen_hides e f unseen = and_right (bytes_eq (user_of e.key) (user_of f.key)) _ (and_right (nat_lt (sequence_of f.key) (sequence_of e.key)) (nat_le (sequence_of e.key) last) unseen)
 
   no_newer_hides : (e f : Entry) → sequence_of e.key ≤ sequence_of f.key → hides last e f ≡ false
-  no_newer_hides e f le = and_false (bytes_eq (user_of e.key) (user_of f.key)) _
-      (ap (λ (b : Bool). b && nat_le (sequence_of e.key) last) (false_of (nat_lt (sequence_of f.key) (sequence_of e.key)) (λ lt. absurd (omega (arith, (Decides-ltb (sequence_of f.key) (sequence_of e.key)).0 lt)))))
+  no_newer_hides e f le = and_right (bytes_eq (user_of e.key) (user_of f.key)) _
+      (ap (λ (b : Bool). b && nat_le (sequence_of e.key) last) (false_from_ne_true (nat_lt (sequence_of f.key) (sequence_of e.key)) (λ lt. absurd (omega (arith, (Decides-ltb (sequence_of f.key) (sequence_of e.key)).0 lt)))))
 
   newer_hides : (e f : Entry) → user_of e.key ≡ user_of f.key → sequence_of f.key < sequence_of e.key → nat_le (sequence_of e.key) last ≡ true → hides last e f ≡ true
-  newer_hides e f same lt seen = and_both (bytes_eq (user_of e.key) (user_of f.key)) _ ((bytes_eq-Decides (user_of e.key) (user_of f.key)).1 same) (and_both (nat_lt (sequence_of f.key) (sequence_of e.key)) _ ((Decides-ltb (sequence_of f.key) (sequence_of e.key)).1 lt) seen)
+  newer_hides e f same lt seen = and_from (bytes_eq (user_of e.key) (user_of f.key)) _ ((bytes_eq-Decides (user_of e.key) (user_of f.key)).1 same) (and_from (nat_lt (sequence_of f.key) (sequence_of e.key)) _ ((Decides-ltb (sequence_of f.key) (sequence_of e.key)).1 lt) seen)
 
   -- what is hidden in a range is hidden by entries of the range
   pub hidden_in_range : (cmp : List ℕ → List ℕ → Ordering) (range : KeyRange) (es : List Entry) (f : Entry) → is_in_range cmp range (user_of f.key) ≡ true → is_hidden_among last (entries_in cmp range es) f ≡ is_hidden_among last es f
@@ -94,7 +53,7 @@ module _ (last : ℕ) where
       by : is_hidden_among last (entries_in cmp range es) f ≡ is_hidden_among last es f → (b : Bool) → is_in_range cmp range (user_of e.key) ≡ b → is_hidden_among last (cond b (e ∷ entries_in cmp range es) (entries_in cmp range es)) f ≡ (hides last e f || is_hidden_among last es f)
       by rest true is = ap (λ (b : Bool). hides last e f || b) rest
       by rest false isnt =
-          let other : bytes_eq (user_of e.key) (user_of f.key) ≡ false = false_of (bytes_eq (user_of e.key) (user_of f.key)) (λ h. apart (is_in_range cmp range (user_of e.key)) (ap (is_in_range cmp range) ((bytes_eq-Decides (user_of e.key) (user_of f.key)).0 h) ∙ within) isnt) in
+          let other : bytes_eq (user_of e.key) (user_of f.key) ≡ false = false_from_ne_true (bytes_eq (user_of e.key) (user_of f.key)) (λ h. both_ways (is_in_range cmp range (user_of e.key)) isnt (ap (is_in_range cmp range) ((bytes_eq-Decides (user_of e.key) (user_of f.key)).0 h) ∙ within)) in
           rest ∙ ap (λ (b : Bool). b || is_hidden_among last es f) (sym (other_hides e f other))
 
   -- the same entries hide, in any order
@@ -108,7 +67,7 @@ module _ (last : ℕ) where
         where
           hider : (es : List Entry) → is_hidden_among last es f ≡ true → (e : Entry) × Contains es e × (hides last e f ≡ true)
           hider [] h = absurd cc
-          hider (e ∷ es) h = elim (either (hides last e f) (is_hidden_among last es f) h) [
+          hider (e ∷ es) h = elim (or_cases (hides last e f) (is_hidden_among last es f) h) [
             | inl own ↦ (e, first_in e es, own)
             | inr later ↦ let at = hider es later in (at.0, later_in e es at.0 at.1, at.2)
           ]
@@ -120,7 +79,7 @@ module _ (last : ℕ) where
               no_place e at = absurd (omega (arith, at.1))
           hidden_by (d ∷ es) e at own = elim (first_or_later d es e at) [
             | inl same ↦ ap (λ (b : Bool). b || is_hidden_among last es f) (ap (λ (x : Entry). hides last x f) (sym same) ∙ own)
-            | inr later ↦ ap (λ (b : Bool). hides last d f || b) (hidden_by es e later own) ∙ or_true (hides last d f)
+            | inr later ↦ ap (λ (b : Bool). hides last d f || b) (hidden_by es e later own) ∙ or-true (hides last d f)
           ]
 
       by : (a b : Bool) → (a ≡ true → b ≡ true) → (b ≡ true → a ≡ true) → a ≡ b
@@ -200,7 +159,7 @@ module _ (cmp : List ℕ → List ℕ → Ordering) (total : IsTotalOrder cmp) (
 
     -- so it is hidden exactly if it was decided
     pub hidden_first : within e ≡ true → hidden e ≡ is_decided decided (user_of e.key)
-    hidden_first inside = walked.known e own inside ∙ ap (λ (b : Bool). is_decided decided (user_of e.key) || b) not_hidden ∙ or_none (is_decided decided (user_of e.key))
+    hidden_first inside = walked.known e own inside ∙ ap (λ (b : Bool). is_decided decided (user_of e.key) || b) not_hidden ∙ or-false (is_decided decided (user_of e.key))
 
     fewer : AreOnce (entries_in cmp range new)
     fewer user sequence =
@@ -233,12 +192,12 @@ module _ (cmp : List ℕ → List ℕ → Ordering) (total : IsTotalOrder cmp) (
 
     -- an entry that isn't of the range
     pub walked_outside : within e ≡ false → IsWalked cmp range last hidden new decided
-    walked_outside outside = after decided (λ f at inside. no_more f (other_hides last e f (false_of (bytes_eq (user_of e.key) (user_of f.key)) (λ h. apart (within e) (ap (is_in_range cmp range) ((bytes_eq-Decides (user_of e.key) (user_of f.key)).0 h) ∙ inside) outside)))) still_from
+    walked_outside outside = after decided (λ f at inside. no_more f (other_hides last e f (false_from_ne_true (bytes_eq (user_of e.key) (user_of f.key)) (λ h. both_ways (within e) outside (ap (is_in_range cmp range) ((bytes_eq-Decides (user_of e.key) (user_of f.key)).0 h) ∙ inside))))) still_from
 
     -- one that is passed over
     over : is_passed_over last decided e ≡ true → IsWalked cmp range last hidden new decided
-    over is = after decided (λ f at inside. elim (either (not (nat_le (sequence_of e.key) last)) (is_decided decided (user_of e.key)) is) [
-      | inl unseen ↦ no_more f (unseen_hides last e f (is_not (nat_le (sequence_of e.key) last) unseen))
+    over is = after decided (λ f at inside. elim (or_cases (not (nat_le (sequence_of e.key) last)) (is_decided decided (user_of e.key)) is) [
+      | inl unseen ↦ no_more f (unseen_hides last e f (not-true (nat_le (sequence_of e.key) last) unseen))
       | inr same ↦ by f same (bytes_eq (user_of e.key) (user_of f.key)) refl
     ]) still_from
       where
@@ -252,14 +211,14 @@ module _ (cmp : List ℕ → List ℕ → Ordering) (total : IsTotalOrder cmp) (
     -- one that decides
     decides : within e ≡ true → is_passed_over last decided e ≡ false → IsWalked cmp range last hidden new (Some (user_of e.key))
     decides inside isnt =
-        let parts = neither (not (nat_le (sequence_of e.key) last)) (is_decided decided (user_of e.key)) isnt in
-        after (Some (user_of e.key)) (λ f at inside_too. by f at inside_too (isnt_not (nat_le (sequence_of e.key) last) parts.0) parts.1 (bytes_eq (user_of e.key) (user_of f.key)) refl) (λ f at. users_up cmp total exact last e.key f.key (least f (still f at)))
+        let parts = or_parts (not (nat_le (sequence_of e.key) last)) (is_decided decided (user_of e.key)) isnt in
+        after (Some (user_of e.key)) (λ f at inside_too. by f at inside_too (not-false (nat_le (sequence_of e.key) last) parts.0) parts.1 (bytes_eq (user_of e.key) (user_of f.key)) refl) (λ f at. users_up cmp total exact last e.key f.key (least f (still f at)))
       where
         -- the two would be one entry twice
         twice : (f : Entry) → Contains new f → within f ≡ true → user_of e.key ≡ user_of f.key → sequence_of f.key ≡ sequence_of e.key → ⊥
         twice f at inside_too same tie =
-            let passes : is_version (user_of e.key) (sequence_of e.key) f ≡ true = and_both (bytes_eq (user_of f.key) (user_of e.key)) _ ((bytes_eq-Decides (user_of f.key) (user_of e.key)).1 (sym same)) (eq-eqb (sequence_of f.key) (sequence_of e.key) tie) in
-            let itself : is_version (user_of e.key) (sequence_of e.key) e ≡ true = and_both (bytes_eq (user_of e.key) (user_of e.key)) _ ((bytes_eq-Decides (user_of e.key) (user_of e.key)).1 refl) (eq-eqb (sequence_of e.key) (sequence_of e.key) refl) in
+            let passes : is_version (user_of e.key) (sequence_of e.key) f ≡ true = and_from (bytes_eq (user_of f.key) (user_of e.key)) _ ((bytes_eq-Decides (user_of f.key) (user_of e.key)).1 (sym same)) (eq-eqb (sequence_of f.key) (sequence_of e.key) tie) in
+            let itself : is_version (user_of e.key) (sequence_of e.key) e ≡ true = and_from (bytes_eq (user_of e.key) (user_of e.key)) _ ((bytes_eq-Decides (user_of e.key) (user_of e.key)).1 refl) (eq-eqb (sequence_of e.key) (sequence_of e.key) refl) in
             let kept : entries_in cmp range old ≡ entries_in cmp range front ++ e ∷ entries_in cmp range behind =
             filter-append within front (e ∷ behind) ∙ ap (λ (b : Bool). entries_in cmp range front ++ cond b (e ∷ entries_in cmp range behind) (entries_in cmp range behind)) inside in
             let few = subst (λ (es : List Entry). count_by (is_version (user_of e.key) (sequence_of e.key)) es ≤ 1) kept (walked.once (user_of e.key) (sequence_of e.key)) in
@@ -280,8 +239,8 @@ module _ (cmp : List ℕ → List ℕ → Ordering) (total : IsTotalOrder cmp) (
         -- of another user key, it wasn't decided
         undecided : (d : Option (List ℕ)) (f : Entry) → Contains new f → IsFrom cmp d (user_of e.key) → is_decided d (user_of e.key) ≡ false → is_decided d (user_of f.key) ≡ false
         undecided None f at up isnt = refl
-        undecided (Some d) f at (inr same) isnt = absurd (apart (bytes_eq d (user_of e.key)) ((bytes_eq-Decides d (user_of e.key)).1 same) isnt)
-        undecided (Some d) f at (inl above) isnt = false_of (bytes_eq d (user_of f.key)) (λ h. refuted ((bytes_eq-Decides d (user_of f.key)).0 h))
+        undecided (Some d) f at (inr same) isnt = absurd (both_ways (bytes_eq d (user_of e.key)) isnt ((bytes_eq-Decides d (user_of e.key)).1 same))
+        undecided (Some d) f at (inl above) isnt = false_from_ne_true (bytes_eq d (user_of f.key)) (λ h. refuted ((bytes_eq-Decides d (user_of f.key)).0 h))
           where
             refuted : d ≡ user_of f.key → ⊥
             refuted same = elim (users_up cmp total exact last e.key f.key (least f (still f at))) [
@@ -294,7 +253,7 @@ module _ (cmp : List ℕ → List ℕ → Ordering) (total : IsTotalOrder cmp) (
         by f at inside_too seen isnt true own_user =
             let same = (bytes_eq-Decides (user_of e.key) (user_of f.key)).0 own_user in
             let hid : hides last e f ≡ true = newer_hides last e f same (older_one f at inside_too same) seen in
-            ap (λ (b : Bool). is_decided decided (user_of f.key) || (b || is_hidden_among last new f)) hid ∙ or_true (is_decided decided (user_of f.key)) ∙ sym (ap (λ (b : Bool). b || is_hidden_among last new f) own_user)
+            ap (λ (b : Bool). is_decided decided (user_of f.key) || (b || is_hidden_among last new f)) hid ∙ or-true (is_decided decided (user_of f.key)) ∙ sym (ap (λ (b : Bool). b || is_hidden_among last new f) own_user)
         by f at inside_too seen isnt false other =
             ap (λ (b : Bool). b || (hides last e f || is_hidden_among last new f)) (undecided decided f at (walked.from e own) isnt)
             ∙ ap (λ (b : Bool). b || is_hidden_among last new f) (other_hides last e f other)

@@ -1,12 +1,12 @@
 -- The entries of a user key, gathered from the files of a version and then sorted.
-use Rattle.std.proofs.Common.{◌≡◌, ℕ, ◌+◌, ◌<◌, ◌≤◌, Bool, true, false, ◌&&◌, eqb, List, [], ◌∷◌, ◌++◌, length, map, take, drop, get_or, refl, sym, ap, subst, ◌∙◌, inl, inr, arith}
+use Rattle.std.proofs.Common.{◌≡◌, ℕ, ◌+◌, ◌<◌, ◌≤◌, Bool, false, ◌&&◌, eqb, List, [], ◌∷◌, ◌++◌, length, map, take, drop, get_or, refl, sym, ap, subst, ◌∙◌, inl, inr, arith}
 use Rattle.std.specs.Prelude.{Contains}
 use Rattle.std.specs.Cmp.{IsStrictWeakOrder}
 use Rattle.std.specs.List.{All, IsDistinct}
 use Rattle.std.specs.List.Sorted.{IsPermutation, IsSortedBy}
 use Rattle.std.specs.Ordering.{is_lt, nat_cmp}
 use Rattle.std.specs.declared.cmp.Ordering.{Ordering}
-use Rattle.std.proofs.lemmas.Bool.{cases_lt}
+use Rattle.std.proofs.lemmas.Bool.{cases_lt, ne_eqb, both_ways}
 use Rattle.std.proofs.lemmas.Bool.Decides.{Decides-eqb}
 use Rattle.std.proofs.lemmas.Cmp.{nat_cmp_total}
 use Rattle.std.proofs.lemmas.List.{map-append, take-append-drop}
@@ -14,6 +14,7 @@ use Rattle.std.proofs.lemmas.List.Elements.{All-contains, Contains-get_or, Conta
 use Rattle.std.proofs.lemmas.List.MinMax.{IsStrictWeakOrder-flip}
 use Rattle.std.proofs.lemmas.List.Sorted.{Contains-permutation, IsPermutation-sym, ranks_by, sorted_far}
 use Rattle.std.proofs.lemmas.Map.Keys.{IsDistinct-IsPermutation, IsDistinct-from_apart, apart_from_distinct, ge_from_not_lt}
+use Rattle.std.proofs.Math.Bool.{and-false}
 use Rattle.block.specs.EncodedEntry.{Entry}
 use Rattle.folder.specs.meta.NewFile.{NewFile}
 use Rattle.folder.proofs.Tested.{eqb-sym}
@@ -31,35 +32,21 @@ use Rattle.scan.specs.PlacedEntries.{placed, same_place}
 use Rattle.scan.specs.UserHistory.{AreEntriesOf}
 use Rattle.scan.specs.declared.placed_entry.PlacedEntry.{PlacedEntry}
 
-clash : (b : Bool) → b ≡ true → b ≡ false → ⊥
-clash b e k = let both : true ≡ false = sym e ∙ k in absurd cc
-
-differs : (m n : ℕ) → (m ≡ n → ⊥) → eqb m n ≡ false
-differs m n other = by (eqb m n) refl
-  where
-    by : (b : Bool) → eqb m n ≡ b → b ≡ false
-    by true is = absurd (other ((Decides-eqb m n).0 is))
-    by false is = refl
-
-and_false : (b : Bool) → (b && false) ≡ false
-and_false true = refl
-and_false false = refl
-
 -- ---- two that were found
 
 abbrev Apart : PlacedEntry → PlacedEntry → Type 0
 Apart a b = same_place a b ≡ false
 
 other_file : (a b : PlacedEntry) → (a.file ≡ b.file → ⊥) → Apart a b
-other_file a b other = ap (λ (t : Bool). t && eqb (sequence_of a.entry.key) (sequence_of b.entry.key)) (differs a.file b.file other)
+other_file a b other = ap (λ (t : Bool). t && eqb (sequence_of a.entry.key) (sequence_of b.entry.key)) (ne_eqb a.file b.file other)
 
 other_sequence : (a b : PlacedEntry) → (sequence_of a.entry.key ≡ sequence_of b.entry.key → ⊥) → Apart a b
 other_sequence a b other =
-    ap (λ (t : Bool). eqb a.file b.file && t) (differs (sequence_of a.entry.key) (sequence_of b.entry.key) other) ∙ and_false (eqb a.file b.file)
+    ap (λ (t : Bool). eqb a.file b.file && t) (ne_eqb (sequence_of a.entry.key) (sequence_of b.entry.key) other) ∙ and-false (eqb a.file b.file)
 
 two_sequences : (a b : PlacedEntry) → Apart a b → a.file ≡ b.file → sequence_of a.entry.key ≡ sequence_of b.entry.key → ⊥
 two_sequences a b apart file same =
-    clash (same_place a b) (ap (λ (t : Bool). t && eqb (sequence_of a.entry.key) (sequence_of b.entry.key)) ((Decides-eqb a.file b.file).1 file) ∙ (Decides-eqb (sequence_of a.entry.key) (sequence_of b.entry.key)).1 same) apart
+    both_ways (same_place a b) apart (ap (λ (t : Bool). t && eqb (sequence_of a.entry.key) (sequence_of b.entry.key)) ((Decides-eqb a.file b.file).1 file) ∙ (Decides-eqb (sequence_of a.entry.key) (sequence_of b.entry.key)).1 same)
 
 place_flips : (a b : PlacedEntry) → same_place a b ≡ same_place b a
 place_flips a b =
@@ -93,8 +80,8 @@ other_numbers files i f step distinct g there same =
     ap (map level_file_in) (sym (take-append-drop (i + 1) files)) ∙ map-append level_file_in (take (i + 1) files) (drop (i + 1) files) in
     let front : Pairs OtherNumber (map level_file_in (take (i + 1) files)) = pairs_left OtherNumber (map level_file_in (take (i + 1) files)) (map level_file_in (drop (i + 1) files)) (subst (Pairs OtherNumber) parts all) in
     let more : map level_file_in (take (i + 1) files) ≡ map level_file_in (take i files) ++ level_file_in f ∷ [] = ap (map level_file_in) step ∙ map-append level_file_in (take i files) (f ∷ []) in
-    clash (same_file g (level_file_in f)) ((Decides-eqb g.meta.number f.meta.now.number).1 same)
-    (pairs_across OtherNumber (map level_file_in (take i files)) (level_file_in f ∷ []) (subst (Pairs OtherNumber) more front) g (level_file_in f) there (first_in (level_file_in f) []))
+    both_ways (same_file g (level_file_in f)) (pairs_across OtherNumber (map level_file_in (take i files)) (level_file_in f ∷ []) (subst (Pairs OtherNumber) more front) g (level_file_in f) there (first_in (level_file_in f) []))
+    ((Decides-eqb g.meta.number f.meta.now.number).1 same)
 
 module _ (user : List ℕ) (tables : List NumberedContents) where
   pub none_placed : ArePlaced user tables [] []

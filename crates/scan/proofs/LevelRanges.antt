@@ -5,6 +5,8 @@ use Rattle.std.specs.List.{count_by, flat_map, sum_by}
 use Rattle.std.specs.declared.cmp.Ordering.{Ordering}
 use Rattle.std.proofs.lemmas.List.{ext_get_or, get_or-map, length-append, length-map}
 use Rattle.std.proofs.lemmas.List.Sums.{count_by-le-length, length-filter, sum_by-le-sum_by}
+use Rattle.std.proofs.lemmas.Bool.{or_cases}
+use Rattle.std.proofs.Math.Bool.{or-true}
 use Rattle.block.specs.EncodedEntry.{Entry}
 use Rattle.folder.specs.meta.FileMeta.{FileMeta}
 use Rattle.folder.specs.Calls.{Files}
@@ -61,18 +63,10 @@ module _ (cmp : List ℕ → List ℕ → Ordering) (boundaries : List (List ℕ
   abbrev here : ℕ → List ℕ → Bool
   here n user = is_in_range cmp (range_at boundaries n) user
 
-  either : (a b : Bool) → (a || b) ≡ true → (a ≡ true) ⊎ (b ≡ true)
-  either true b h = inl refl
-  either false b h = inr h
-
-  or_true : (a : Bool) → (a || true) ≡ true
-  or_true true = refl
-  or_true false = refl
-
   -- the range that does
   first_of : (n : ℕ) (user : List ℕ) → in_first n user ≡ true → (k : ℕ) × (k < n) × (here k user ≡ true)
   first_of zero user h = absurd cc
-  first_of (suc n) user h = elim (either (in_first n user) (here n user) h) [
+  first_of (suc n) user h = elim (or_cases (in_first n user) (here n user) h) [
     | inl before ↦ let at = first_of n user before in (at.0, omega (arith, at.1), at.2)
     | inr own ↦ (n, omega arith, own)
   ]
@@ -81,7 +75,7 @@ module _ (cmp : List ℕ → List ℕ → Ordering) (boundaries : List (List ℕ
   among zero k user lt own = absurd (omega arith)
   among (suc n) k user lt own = elim (last_or n k lt) [
     | inl before ↦ ap (λ (b : Bool). b || here n user) (among n k user before own)
-    | inr same ↦ ap (λ (b : Bool). in_first n user || b) (subst (λ (m : ℕ). here m user ≡ true) same own) ∙ or_true (in_first n user)
+    | inr same ↦ ap (λ (b : Bool). in_first n user || b) (subst (λ (m : ℕ). here m user ≡ true) same own) ∙ or-true (in_first n user)
   ]
     where
       last_or : (n k : ℕ) → k < suc n → (k < n) ⊎ (k ≡ n)

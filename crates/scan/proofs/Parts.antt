@@ -1,7 +1,7 @@
 -- Parts of a table's file, as a folder tells them.
 use Rattle.std.proofs.Common.{◌≡◌, ℕ, ◌+◌, ◌-◌, ◌≤◌, ◌^◌, nat_le, Bool, true, false, List, length, take, drop, Option, Some, None, Result, Ok, if◌then◌else◌, refl, sym, ap, ◌∙◌, inl, inr, arith}
-use Rattle.std.proofs.lemmas.Bool.Decides.{nat_tests}
 use Rattle.std.proofs.lemmas.List.{length-drop, take_all}
+use Rattle.std.proofs.lemmas.Bool.{leb-true}
 use Rattle.table.proofs.Binds.{bind_ok, done, failed, ok_is}
 use Rattle.table.specs.Answers.{◌>>=◌, fault}
 use Rattle.table.specs.fault.Fault.{Fault}
@@ -19,6 +19,7 @@ use Rattle.table.specs.IndexReading.{block_in, one_handle, stored_at}
 use Rattle.table.specs.TestResult.{test_result}
 use Rattle.table.specs.TableContents.{index_in}
 use Rattle.table.proofs.Walks.{block_named-by}
+use Rattle.table.proofs.EntryTests.{passed}
 use Rattle.scan.specs.SearchAnswers.{IsFileOfBytes, index_handle, len_with_trailer}
 use Rattle.scan.specs.FolderTables.{HoldTables, HoldsTable, TellsJust}
 use Rattle.scan.specs.declared.file_parts.TableFile.{TableFile}
@@ -59,13 +60,6 @@ pub record IndexThere (bytes : List ℕ) (names : List Entry) : Type 0 where
   pub place : stored_at bytes handle ≡ Ok stored
   pub block : block_in stored ≡ Ok names
 
-passed : (b : Bool) (name : _) (x : Unit {0}) → test_result b name ≡ Ok x → b ≡ true
-passed true name x h = refl
-passed false name x h = absurd (cc h)
-
-le_of : (m n : ℕ) → nat_le m n ≡ true → m ≤ n
-le_of m n h = grind (arith, nat_tests)
-
 pub index_there : (bytes : List ℕ) (names : List Entry) → index_in bytes ≡ Ok names → IndexThere bytes names
 index_there bytes names h =
     let small = bind_ok (test_result (nat_le (length bytes) (2 ^ 30)) Size) _ names h in
@@ -77,7 +71,7 @@ index_there bytes names h =
     let one = stored_there bytes footer.0.metaindex metaindex.0 metaindex.1 in
     let two = stored_there bytes footer.0.index index.0 index.1 in
     record {
-      long = le_of 48 (length bytes) (passed _ Short long.0 long.1);
+      long = leb-true 48 (length bytes) (passed _ Short long.0 long.1);
       handle = footer.0.index;
       read =
           ap (λ (r : Result Footer Fault). r >>= λ f. len_with_trailer (length bytes) f.metaindex >>= λ a. len_with_trailer (length bytes) f.index >>= λ b. done f.index) footer.1

@@ -1,5 +1,6 @@
 -- Keys that begin with given bytes lie between these and the next bytes.
-use Rattle.std.proofs.Common.{◌≡◌, ◌≢◌, ℕ, zero, suc, ◌+◌, ◌<◌, List, [], ◌∷◌, ◌++◌, Option, Some, None, length, replicate, slice_index, refl, sym, ap, ap₂, ◌∙◌, append_assoc, arith}
+use Rattle.std.proofs.Common.{◌≡◌, ◌≢◌, ℕ, zero, suc, ◌+◌, ◌<◌, List, [], ◌∷◌, ◌++◌, Some, None, length, replicate, slice_index, refl, sym, ap, ap₂, ◌∙◌, append_assoc, arith}
+use Rattle.std.proofs.lemmas.Option.{same_Some}
 use Rattle.std.specs.declared.cmp.Ordering.{Ordering}
 use Rattle.std.specs.declared.cmp.Ordering.TheVariants.{Less, Equal, Greater}
 use Rattle.std.specs.Ordering.{nat_cmp, ordering_then, MatchOrdering}
@@ -123,17 +124,10 @@ some_end prefix front rest end last parts (n, whole) is key fits =
     rw (same, is) (
       λ within. begins rest last n key fits (within.from (from_of rest last n) refl) (within.before (end_of rest last) refl),
       λ h. let parts = begun rest last n key h in record {
-        from = λ x e. rw (← same_some _ _ e) parts.0;
-        before = λ x e. rw (← same_some _ _ e) parts.1;
+        from = λ x e. rw (← same_Some _ _ e) parts.0;
+        before = λ x e. rw (← same_Some _ _ e) parts.1;
       },
     )
-  where
-    some_or : Option (List ℕ) → List ℕ
-    some_or None = []
-    some_or (Some x) = x
-
-    same_some : (x y : List ℕ) → Some x ≡ Some y → x ≡ y
-    same_some x y e = ap some_or e
 
 -- no end, if all bytes are 0xff
 pub no_end : (prefix front : List ℕ) → length front ≡ 0 → IsFilled prefix front → IsPrefixEnd prefix None
@@ -142,11 +136,7 @@ no_end prefix [] none (n, whole) key fits =
     rw whole (
       λ within. full_from n key fits (within.from (full n) refl),
       λ h. record {
-        from = λ x e. rw (← ap some_or e) (from_full n key h);
+        from = λ x e. rw (← same_Some _ _ e) (from_full n key h);
         before = λ x e. cc e;
       },
     )
-  where
-    some_or : Option (List ℕ) → List ℕ
-    some_or None = []
-    some_or (Some x) = x

@@ -6,6 +6,7 @@ use Rattle.std.specs.Cmp.{IsTotalOrder}
 use Rattle.std.specs.declared.cmp.Ordering.{Ordering}
 use Rattle.std.proofs.lemmas.List.Elements.{All-contains, Contains-get_or}
 use Rattle.table.proofs.Refusals.{unless_device, unless_from}
+use Rattle.table.proofs.Binds.{failed}
 use Rattle.table.specs.Answers.{FailsOrMemory, UnlessMemory, fault}
 use Rattle.table.specs.fault.Fault.{Fault}
 use Rattle.table.specs.fault.FaultName.TheVariants.{Device, Memory}
@@ -19,7 +20,7 @@ use Rattle.folder.proofs.OpeningLemmas.{failed_since}
 use Rattle.folder.specs.Calls.{Files, Tells}
 use Rattle.folder.specs.Levels.{file_numbers}
 use Rattle.folder.specs.LoadedTables.{IsLoaded}
-use Rattle.folder.specs.OpenAnswer.{HasDeviceFailed, IsStopped}
+use Rattle.folder.specs.OpenAnswer.{IsStopped}
 use Rattle.folder.specs.ReadsAs.{IsFileIn}
 use Rattle.reads.specs.StatedFiles.{IsStatedFile}
 use Rattle.reads.specs.TableOrder.{AreStandingFiles}
@@ -155,10 +156,7 @@ pub record LawfulTables (cmp : List ℕ → List ℕ → Ordering) (files : File
   pub there : IsLoaded (IsFileIn files) (file_numbers cmp v) (Ok loaded)
   pub lawful : IsLawfulTables cmp v loaded (Ok tables)
 
-abbrev refusal : {Y : Type 0} → Fault → Result Y Fault
-refusal e = Err e
-
-no_refusal : {Y : Type 0} (y : Y) (e : Fault) → Ok y ≡ refusal e → ⊥
+no_refusal : {Y : Type 0} (y : Y) (e : Fault) → Ok y ≡ failed e → ⊥
 no_refusal y e h = cc
 
 pub lawful_tables : (cmp : List ℕ → List ℕ → Ordering) (files : Files) (v : State) (tested : VersionTotals) → IsTested (IsFileIn files) cmp v (Ok tested) → LawfulTables cmp files v
@@ -177,11 +175,6 @@ other_refusal cmp loaded (Ok x) e is given = absurd is
 other_refusal cmp loaded (Err f) e is given = λ same.
     let named : e.name ≡ Device = sym (ap (λ (d : Fault). d.name) is) ∙ same in
     no_device cmp loaded e (unless_device e (tables_reading cmp loaded ≡ Err e) named given) named
-
--- so it isn't an answer that the device failed
-pub other_failed : {X : Type 0} (before now : ℕ) (r : Result X Fault) → IfErr r (λ f. f.name ≢ Device) → IfErr r (HasDeviceFailed before now)
-other_failed before now (Ok x) h = tt
-other_failed before now (Err e) h = λ same. absurd (h same)
 
 -- what only the device or memory refuse, after a call that refuses so too
 pub stopped_or : {X : Type 0} (before middle now : ℕ) (r : Result X Fault) (e : Fault) → IsErrAnd r (λ f. f ≡ e) → before ≤ middle → middle ≤ now → UnlessMemory e (IsStopped middle now e ⊎ ⊥) → IfErr r (λ e. UnlessMemory e (IsStopped before now e))

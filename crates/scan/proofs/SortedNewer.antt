@@ -1,5 +1,5 @@
 -- Sorted entries, of which no two have one user key and one sequence.
-use Rattle.std.proofs.Common.{◌≡◌, ℕ, ◌<◌, ◌≤◌, Bool, true, false, cond, List, [], ◌∷◌, refl, sym, subst, ◌∙◌, inl, inr, eq-or-lt_of_le}
+use Rattle.std.proofs.Common.{◌≡◌, ℕ, ◌<◌, ◌≤◌, Bool, true, false, cond, List, [], ◌∷◌, refl, sym, subst, ◌∙◌, inl, inr, eq-or-lt_of_le, arith}
 use Rattle.std.specs.Prelude.{◌⊎◌, Contains, filter}
 use Rattle.std.specs.Cmp.{IsTotalOrder}
 use Rattle.std.specs.Ordering.{is_le, is_lt}
@@ -51,6 +51,11 @@ in_sorted cmp (e ∷ es) x at = in_with cmp e (sorted_entries cmp es) x (elim (f
 
 distinct_back : (a b : Entry) → AreDistinct a b → AreDistinct b a
 distinct_back a b h same tie = h (sym same) (sym tie)
+
+pub newer_distinct : (a b : Entry) → IsNewer a b → AreDistinct a b
+newer_distinct a b newer same tie =
+    let lt = newer same in
+    absurd (omega (arith, lt, tie))
 
 module _ (cmp : List ℕ → List ℕ → Ordering) (total : IsTotalOrder cmp) where
   distinct_with : (e : Entry) (es : List Entry) → ((f : Entry) → Contains es f → AreDistinct e f) → Pairs AreDistinct es → Pairs AreDistinct (entries_with cmp e es)

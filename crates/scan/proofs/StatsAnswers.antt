@@ -2,7 +2,7 @@
 use Rattle.std.proofs.Common.{◌≡◌, ◌≢◌, ℕ, List, Result, Ok, Err, IfErr, IsErrAnd, sym, ap, subst, ◌∙◌}
 use Rattle.std.specs.Prelude.{◌⊎◌}
 use Rattle.std.specs.declared.cmp.Ordering.{Ordering}
-use Rattle.table.proofs.Binds.{ok_is}
+use Rattle.table.proofs.Binds.{ok_is, failed}
 use Rattle.table.proofs.Refusals.{unless_device, unless_from}
 use Rattle.table.specs.Answers.{EqualOrMemory, UnlessMemory, fault}
 use Rattle.table.specs.fault.Fault.{Fault}
@@ -17,13 +17,10 @@ use Rattle.scan.specs.Stats.{Stats, version_stats}
 use Rattle.scan.specs.TestedStats.{IsTestedStats}
 use Rattle.scan.proofs.ScanAnswers.{LawfulTables}
 
-abbrev refusal : {Y : Type 0} → Fault → Result Y Fault
-refusal e = Err e
-
-no_refusal : {Y : Type 0} (y : Y) (e : Fault) → refusal e ≡ Ok y → ⊥
+no_refusal : {Y : Type 0} (y : Y) (e : Fault) → failed e ≡ Ok y → ⊥
 no_refusal y e h = cc
 
-same_refusal : {Y : Type 0} (e d : Fault) → refusal {Y = Y} e ≡ refusal d → e ≡ d
+same_refusal : {Y : Type 0} (e d : Fault) → failed {A = Y} e ≡ failed d → e ≡ d
 same_refusal e d h = cc
 
 -- a refusal that `?` hands on
@@ -50,8 +47,8 @@ module _ (cmp : List ℕ → List ℕ → Ordering) (files : Files) (v : State) 
   -- what the test of the version refuses
   pub refused_stats : (e : Fault) → IsTested (IsFileIn files) cmp v (Err e) → IsTestedStats (IsFileIn files) cmp v (Err e)
   refused_stats e (Ok loaded, (there, (Ok tables, h))) = absurd (no_refusal _ e h.1)
-  refused_stats e (Ok loaded, (there, (Err d, h))) = (Ok loaded, (there, (Err d, (h.0, ap refusal (same_refusal e d h.1)))))
-  refused_stats e (Err d, h) = (Err d, (h.0, ap refusal (same_refusal e d h.1)))
+  refused_stats e (Ok loaded, (there, (Err d, h))) = (Ok loaded, (there, (Err d, (h.0, ap failed (same_refusal e d h.1)))))
+  refused_stats e (Err d, h) = (Err d, (h.0, ap failed (same_refusal e d h.1)))
 
   -- the tables of a version that was tested, and how many entries they have
   pub record CountedTables (tested : VersionTotals) : Type 0 where

@@ -1,6 +1,6 @@
 -- The amounts of all levels of a lawful version.
 use Rattle.std.proofs.Common.{◌≡◌, ◌≤◌, ◌+◌, ◌-◌, ◌^◌, ℕ, zero, suc, Bool, true, false, List, [], ◌∷◌, ◌++◌, length, map, Option, Ok, refl, sym, ap, ap₂, subst, ◌∙◌, append_assoc, arith}
-use Rattle.std.specs.Prelude.{◌&&◌, Contains, fold, unwrap_or}
+use Rattle.std.specs.Prelude.{Contains, fold, unwrap_or}
 use Rattle.std.specs.List.{count_by, flat_map, sum_by}
 use Rattle.std.specs.List.Sorted.{IsPermutation}
 use Rattle.std.specs.Cmp.{IsTotalOrder}
@@ -11,6 +11,7 @@ use Rattle.std.proofs.lemmas.List.{length-append, map-append, map-id}
 use Rattle.std.proofs.lemmas.List.Sorted.{All-permutation, Contains-permutation, IsPermutation-sym, length_permutation, sum_by-IsPermutation}
 use Rattle.std.proofs.lemmas.List.Sums.{count_by-le-length, sum_by-cons}
 use Rattle.std.proofs.lemmas.Slice.Eq.{bytes_eq-Decides}
+use Rattle.std.proofs.lemmas.Bool.{and_parts, false_from_ne_true}
 use Rattle.table.specs.Key.{sequence_of, user_of}
 use Rattle.block.specs.EncodedEntry.{Entry}
 use Rattle.folder.specs.Version.{State}
@@ -49,21 +50,9 @@ use Rattle.scan.proofs.CountedEntries.{count_append, count_cons, count_none, cou
 use Rattle.scan.proofs.HiddenSteps.{hidden_same}
 use Rattle.scan.proofs.ScanAnswers.{entries_each, tables_in}
 use Rattle.scan.proofs.VersionFiles.{from_standing, to_standing}
+use Rattle.scan.proofs.SortedNewer.{newer_distinct}
 
 -- ---- no user key has one sequence twice
-
-newer_distinct : (a b : Entry) → IsNewer a b → AreDistinct a b
-newer_distinct a b newer same tie =
-    let lt = newer same in
-    absurd (omega (arith, lt, tie))
-
-and_parts : (a b : Bool) → (a && b) ≡ true → (a ≡ true) × (b ≡ true)
-and_parts true b h = (refl, h)
-and_parts false b h = absurd cc
-
-false_of : (b : Bool) → (b ≡ true → ⊥) → b ≡ false
-false_of true h = absurd (h refl)
-false_of false h = refl
 
 once_of : (es : List Entry) → Pairs AreDistinct es → AreOnce es
 once_of [] pairs user sequence = omega arith
@@ -75,7 +64,7 @@ once_of (e ∷ es) pairs user sequence = by (once_of es pairs.1 user sequence) (
     by : count_by (is_version user sequence) es ≤ 1 → (b : Bool) → is_version user sequence e ≡ b → count_by (is_version user sequence) (e ∷ es) ≤ 1
     by rest true own =
         let here = is_of e own in
-        let none = count_none (is_version user sequence) es (λ x at. false_of (is_version user sequence x) (λ h. let there = is_of x h in pairs.0 x at (here.0 ∙ sym there.0) (here.1 ∙ sym there.1))) in
+        let none = count_none (is_version user sequence) es (λ x at. false_from_ne_true (is_version user sequence x) (λ h. let there = is_of x h in pairs.0 x at (here.0 ∙ sym there.0) (here.1 ∙ sym there.1))) in
         let whole = count_cons (is_version user sequence) e es in
         let one = ap one_if own in
         omega arith

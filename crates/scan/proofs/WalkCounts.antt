@@ -1,11 +1,11 @@
 -- Entries of lists that are counted, as they are taken off in the order of their keys.
 use Rattle.std.proofs.Common.{◌≡◌, ◌≢◌, ◌<◌, ℕ, Bool, true, false, cond, List, [], ◌∷◌, ◌++◌, length, drop, map, set, take, zero, suc, Option, Some, None, refl, sym, ap, subst, ◌∙◌, inl, inr, arith}
-use Rattle.std.specs.Prelude.{◌&&◌, Contains, filter, slice_get}
+use Rattle.std.specs.Prelude.{Contains, filter, slice_get}
 use Rattle.std.specs.List.{AllByRecursion}
 use Rattle.std.specs.Cmp.{IsTotalOrder}
 use Rattle.std.specs.Ordering.{is_le}
 use Rattle.std.specs.declared.cmp.Ordering.{Ordering}
-use Rattle.std.proofs.lemmas.Bool.{cases_eq}
+use Rattle.std.proofs.lemmas.Bool.{cases_eq, and_right}
 use Rattle.std.proofs.lemmas.List.{get_or-set_other, get_or-set_same, length-map, length-set}
 use Rattle.std.proofs.lemmas.List.Elements.{Contains-append_left, Contains-append_right, filter-append}
 use Rattle.std.proofs.lemmas.List.Sums.{count_by-le-length}
@@ -90,10 +90,6 @@ module _ (cmp : List ℕ → List ℕ → Ordering) (range : KeyRange) where
   joined_ranged [] = refl
   joined_ranged (l ∷ lists) = ap (λ (es : List Entry). entries_in cmp range l ++ es) (joined_ranged lists) ∙ sym (filter-append (λ (e : Entry). is_in_range cmp range (user_of e.key)) l (entries_of_lists lists))
 
-and_false : (a b : Bool) → b ≡ false → (a && b) ≡ false
-and_false true b h = h
-and_false false b h = refl
-
 -- ---- the walk
 
 module _ (cmp : List ℕ → List ℕ → Ordering) (total : IsTotalOrder cmp) (exact : IsExact cmp) (range : KeyRange) (last : ℕ) (all : List (List Entry)) (old : List Amounts) where
@@ -146,7 +142,7 @@ module _ (cmp : List ℕ → List ℕ → Ordering) (total : IsTotalOrder cmp) (
   count_stops lists decided now number same first behind so_far =
       let none = from_bound cmp total range.upper true (merged cmp lists) (sorted_never_falls cmp total (entries_of_lists lists)) behind in
       end_by lists decided now number same first (λ i. none_kept (λ (e : Entry). is_in_range cmp range (user_of e.key)) (list_at lists i) (λ e at.
-      and_false _ (is_before cmp range.upper true e) (each_of (λ (f : Entry). is_before cmp range.upper true f ≡ false) (merged cmp lists) none e (in_sorted cmp (entries_of_lists lists) e (in_list lists i e at))))) so_far
+      and_right _ (is_before cmp range.upper true e) (each_of (λ (f : Entry). is_before cmp range.upper true f ≡ false) (merged cmp lists) none e (in_sorted cmp (entries_of_lists lists) e (in_list lists i e at))))) so_far
 
   -- one entry is taken off
   module _ (lists new : List (List Entry)) (place : ℕ) (m : IsMerging cmp lists (Some place)) (advanced : IsAdvanced cmp lists new) (decided : Option (List ℕ)) (now : List Amounts) (number : length now ≡ length lists) where

@@ -26,18 +26,6 @@ module _ (cmp : List ℕ → List ℕ → Ordering) (ks : List (List ℕ)) (want
     pub below : (key : List ℕ) → Contains bs key → StandsBelow free key
     pub last : (free ≡ 0) ⊎ ((j : ℕ) × (0 < j) × (j < number) × (free ≡ place j + 1))
 
-  pub none_taken : Taken 1 0 []
-  none_taken = record {
-    few = omega arith;
-    listed = record {
-      rising = λ i j d lt below. absurd (omega arith);
-      all = λ key at. absurd (omega arith);
-      only = λ key at. absurd (omega arith);
-    };
-    below = λ key at. absurd (omega arith);
-    last = inl refl;
-  }
-
   place_rises : (i j : ℕ) → 0 < want → i ≤ j → place i ≤ place j
   place_rises i j some le =
       let low : place i * want ≤ i * length ks = div-mul-le_self (i * length ks) want in

@@ -89,10 +89,6 @@ AllByRecursion-push P (x ∷ xs) y h p = (h.0, AllByRecursion-push P xs y h.1 p)
 flushed_len-full : (o : Options) (entries : List Entry) → is_full o entries ≡ true → flushed_len o entries ≡ length (block o.restart_interval entries) + 5
 flushed_len-full o entries full = rw full refl
 
-full_some : (o : Options) (entries : List Entry) → is_full o entries ≡ true → 0 < length entries
-full_some o [] full = absurd (cc)
-full_some o (e ∷ es) full = omega arith
-
 pub IsBuilt-flushed : {keys : IndexKeys} {o : Options} {parts : List (List Entry)} {bytes : List ℕ} {index : List FlushedBlock} {interval : ℕ} {entries : List Entry} (e : Entry) (interval' : ℕ) → IsTableBuilder keys o parts bytes index interval entries → interval' ≡ o.restart_interval
     → is_full o entries ≡ true → IsInternalKey e.key → length (block o.restart_interval (e ∷ [])) ≤ 2 ^ 31
     → IsTableBuilder keys o (parts ++ entries ∷ []) (bytes ++ stored_block (block interval entries)) (index ++ flushed_block_at (keys.between (last_key [] entries) e.key) (length bytes) (length (block interval entries)) ∷ []) interval' (e ∷ [])

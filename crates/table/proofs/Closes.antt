@@ -6,8 +6,9 @@ use Rattle.std.proofs.lemmas.List.Sums.{sum_by-append}
 use Rattle.std.specs.Prelude.{◌↔◌}
 use Rattle.std.specs.Ordering.{is_lt}
 use Rattle.std.specs.declared.cmp.Ordering.{Ordering}
-use Rattle.std.specs.declared.cmp.Ordering.TheVariants.{Less, Equal, Greater}
+use Rattle.std.specs.declared.cmp.Ordering.TheVariants.{Less}
 use Rattle.ikey.specs.Order.{internal_cmp}
+use Rattle.ikey.proofs.Ordered.{is_lt-true}
 use Rattle.block.specs.EncodedEntry.{Entry}
 use Rattle.block.specs.BlockFormat.{block}
 use Rattle.block.specs.BuilderView.{last_key}
@@ -107,14 +108,9 @@ some_length (e ∷ es) some = omega arith
 
 -- ---- the last key
 
-pub is_less : (o : Ordering) → is_lt o ≡ true → o ≡ Less
-is_less Less e = refl
-is_less Equal e = absurd (cc)
-is_less Greater e = absurd (cc)
-
 -- what a comparison with the last key tells
 pub less_by_test : (told : Bool) (o p : Ordering) → told ≡ is_lt o → o ≡ p → (told ≡ true) ↔ (p ≡ Less)
-less_by_test told o p told_is same = (λ t. is_less p (ap is_lt (sym same) ∙ sym told_is ∙ t), λ less. told_is ∙ ap is_lt (same ∙ less))
+less_by_test told o p told_is same = (λ t. is_lt-true p (ap is_lt (sym same) ∙ sym told_is ∙ t), λ less. told_is ∙ ap is_lt (same ∙ less))
 
 last_key-append : (before : List ℕ) (q : List Entry) (e : Entry) (es : List Entry) → last_key before (q ++ e ∷ es) ≡ last_key e.key es
 last_key-append before [] e es = refl

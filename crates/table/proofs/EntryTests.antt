@@ -1,10 +1,9 @@
 -- What is known of entries that passed their tests.
-use Rattle.std.proofs.Common.{◌≡◌, ℕ, ◌+◌, ◌%◌, ◌≤◌, Bool, true, false, cond, nat_lt, nat_le, List, [], ◌∷◌, ◌++◌, length, drop, Option, Some, None, Result, Ok, Err, refl, sym, ap, subst, ◌∙◌}
+use Rattle.std.proofs.Common.{◌≡◌, ℕ, ◌+◌, ◌%◌, ◌≤◌, Bool, true, false, cond, nat_lt, nat_le, List, [], ◌∷◌, ◌++◌, length, Option, Some, None, Result, Ok, Err, refl, sym, ap, subst, ◌∙◌}
 use Rattle.std.specs.List.{AllByRecursion}
-use Rattle.std.specs.Ordering.{is_lt}
 use Rattle.std.specs.Cmp.{IsTotalOrder}
 use Rattle.std.specs.declared.cmp.Ordering.{Ordering}
-use Rattle.std.specs.declared.cmp.Ordering.TheVariants.{Less, Equal, Greater}
+use Rattle.std.specs.declared.cmp.Ordering.TheVariants.{Less}
 use Rattle.std.proofs.lemmas.Bool.{leb-true}
 use Rattle.coding.specs.Answers.{fault, ◌>>=◌}
 use Rattle.coding.specs.declared.fault.Fault.{Fault}
@@ -12,9 +11,10 @@ use Rattle.coding.specs.declared.fault.FaultName.{FaultName}
 use Rattle.coding.specs.declared.fault.FaultName.TheVariants.{Key, TooLarge, Order, Empty}
 use Rattle.coding.proofs.Binds.{done, bind_ok, ok_is}
 use Rattle.block.specs.EncodedEntry.{Entry}
+use Rattle.block.proofs.Areas.{AllByRecursion-weaker}
 use Rattle.ikey.specs.Key.{tag_of, internal_key_reading}
 use Rattle.ikey.specs.Order.{internal_cmp}
-use Rattle.ikey.proofs.Ordered.{internal_cmp-total}
+use Rattle.ikey.proofs.Ordered.{internal_cmp-total, is_lt-true}
 use Rattle.table.specs.TestResult.{test_result}
 use Rattle.table.specs.EntryTests.{is_above, last_key_after, entry_test, entries_test, is_some_list, data_test, HaveKeys}
 use Rattle.table.specs.IndexReading.{IndexEntry}
@@ -95,25 +95,16 @@ all_tests cmp before (i ∷ is) blocks h =
 
 -- ---- rising
 
-pub less_is : (o : Ordering) → is_lt o ≡ true → o ≡ Less
-less_is Less h = refl
-less_is Equal h = absurd cc
-less_is Greater h = absurd cc
-
 -- each of these is above this key, if there is one
 abbrev pub AllAbove : (List ℕ → List ℕ → Ordering) → Option (List ℕ) → List Entry → Type 0
 AllAbove cmp None es = Unit {0}
 AllAbove cmp (Some before) es = AllByRecursion (λ f. internal_cmp cmp before f.key ≡ Less) es
 
-pub weaker : (P Q : Entry → Type 0) → ((e : Entry) → P e → Q e) → (es : List Entry) → AllByRecursion P es → AllByRecursion Q es
-weaker P Q f [] h = tt
-weaker P Q f (e ∷ es) h = (f e h.0, weaker P Q f es h.1)
-
 pub all_above : (cmp : List ℕ → List ℕ → Ordering) (before : Option (List ℕ)) (e : Entry) (es : List Entry) → IsTotalOrder cmp → is_above cmp before e.key ≡ true → AllByRecursion (λ f. internal_cmp cmp e.key f.key ≡ Less) es → AllAbove cmp before (e ∷ es)
 all_above cmp None e es total h q = tt
 all_above cmp (Some before) e es total h q =
-    let first : internal_cmp cmp before e.key ≡ Less = less_is (internal_cmp cmp before e.key) h in
-    (first, weaker (λ f. internal_cmp cmp e.key f.key ≡ Less) (λ f. internal_cmp cmp before f.key ≡ Less) (λ f more. (internal_cmp-total total).trans before e.key f.key first more) es q)
+    let first : internal_cmp cmp before e.key ≡ Less = is_lt-true (internal_cmp cmp before e.key) h in
+    (first, AllByRecursion-weaker (λ f. internal_cmp cmp e.key f.key ≡ Less) (λ f. internal_cmp cmp before f.key ≡ Less) (λ f more. (internal_cmp-total total).trans before e.key f.key first more) es q)
 
 rising_by : (cmp : List ℕ → List ℕ → Ordering) (before : Option (List ℕ)) (es : List Entry) → IsTotalOrder cmp → entries_test cmp before es ≡ Ok tt → AllAbove cmp before es × EntriesRise cmp es
 rising_by cmp None [] total h = (tt, tt)
@@ -127,10 +118,6 @@ pub rising : (cmp : List ℕ → List ℕ → Ordering) (before : Option (List �
 rising cmp before es total h = (rising_by cmp before es total h).1
 
 -- ---- the first entries go
-
-pub seek_goes_on : (cmp : List ℕ → List ℕ → Ordering) (target : List ℕ) (q total : List Entry) → first_is_below cmp target q ≡ true → entries_from cmp target q ≡ total → entries_from cmp target (drop 1 q) ≡ total
-seek_goes_on cmp target [] total h e = absurd cc
-seek_goes_on cmp target (x ∷ q) total h e = ap (λ (b : Bool). cond b (entries_from cmp target q) (x ∷ q)) (sym h) ∙ e
 
 pub seek_ends : (cmp : List ℕ → List ℕ → Ordering) (target : List ℕ) (q total : List Entry) → first_is_below cmp target q ≡ false → entries_from cmp target q ≡ total → q ≡ total
 seek_ends cmp target [] total h e = e

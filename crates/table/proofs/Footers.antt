@@ -66,10 +66,10 @@ handles_again f bytes rest a b c d e =
     ap (λ r. and_then r after_metaindex) (handle_reading-spelled bytes f.metaindex.offset f.metaindex.size (behind f rest) a b parts)
     ∙ ap (λ r. and_then r (λ (index : HandleBehind). Some (record { metaindex = f.metaindex; index = index.handle }))) (handle_reading-spelled (behind f rest) f.index.offset f.index.size rest c d refl)
 
-abbrev read_by : List ℕ → List ℕ → Result Footer Fault
+abbrev pub read_by : List ℕ → List ℕ → Result Footer Fault
 read_by handles last = cond (not (starts_with eqb last magic)) (Err (fault Magic)) (ok_or (handles_reading handles) (fault Handle))
 
-footer_reading-by : (bytes : List ℕ) → footer_reading bytes ≡ read_by (take 40 bytes) (drop 40 bytes)
+pub footer_reading-by : (bytes : List ℕ) → footer_reading bytes ≡ read_by (take 40 bytes) (drop 40 bytes)
 unfolding footer_reading
 footer_reading-by bytes = refl
 

@@ -1,10 +1,11 @@
 -- A handle is read exactly if its spelling begins the bytes.
-use Rattle.std.proofs.Common.{◌≡◌, ℕ, ◌^◌, ◌<◌, ◌≤◌, List, ◌++◌, length, drop, Option, Some, None, refl, sym, ap, ◌∙◌, append_assoc, arith, length-append}
+use Rattle.std.proofs.Common.{◌≡◌, ℕ, ◌^◌, ◌<◌, ◌≤◌, List, ◌++◌, length, drop, Option, Some, sym, ap, ◌∙◌, append_assoc, arith, length-append}
 use Rattle.std.proofs.Math.Seq.{drop-append_seam}
 use Rattle.coding.specs.Varint.{varint, varint_reading}
 use Rattle.coding.proofs.Varints.{varint_reading-varint, reads_varint, length-varint_le}
 use Rattle.coding.specs.Answers.{and_then}
 use Rattle.table.specs.Handle.{handle_bytes, handle_reading, HandleBehind, HandleReadLaw}
+use Rattle.block.proofs.Pieces.{and_then_some}
 
 -- what is read after the offset
 abbrev after_offset : List ℕ → ℕ × ℕ → Option HandleBehind
@@ -36,11 +37,6 @@ handle_reading-spelled bytes offset size rest offset_fits size_fits e =
 
 -- ---- what a reading says of the bytes
 
--- the value of a step that found one
-pub found_first : {A B : Type 0} (o : Option A) (f : A → Option B) (y : B) → and_then o f ≡ Some y → (x : A) × (o ≡ Some x) × (f x ≡ Some y)
-found_first None f y e = absurd (cc)
-found_first (Some x) f y e = (x, refl, e)
-
 pub record IsHandleRead (bytes : List ℕ) (offset size : ℕ) (rest : List ℕ) : Type 0 where
   pub offset_fits : offset < 2 ^ 64
   pub size_fits : size < 2 ^ 64
@@ -60,9 +56,9 @@ same_handle a b c d x y e =
 pub reads_handle : (bytes : List ℕ) (offset size : ℕ) (rest : List ℕ) → handle_reading bytes ≡ Some (record { handle = record { offset = offset; size = size }; rest = rest }) → IsHandleRead bytes offset size rest
 unfolding handle_bytes handle_reading
 reads_handle bytes offset size rest e =
-    let first = found_first (varint_reading (2 ^ 64) bytes) (after_offset bytes) (found offset size rest) e in
+    let first = and_then_some (varint_reading (2 ^ 64) bytes) (after_offset bytes) (found offset size rest) e in
     let behind : List ℕ = drop first.0.1 bytes in
-    let second = found_first (varint_reading (2 ^ 64) behind) (after_size behind first.0.0) (found offset size rest) first.2 in
+    let second = and_then_some (varint_reading (2 ^ 64) behind) (after_size behind first.0.0) (found offset size rest) first.2 in
     let same = same_handle first.0.0 second.0.0 offset size (drop second.0.1 behind) rest second.2 in
     let a = reads_varint (2 ^ 64) bytes first.0.0 first.0.1 first.1 in
     let b = reads_varint (2 ^ 64) behind second.0.0 second.0.1 second.1 in

@@ -4,7 +4,7 @@ use Rattle.std.specs.List.{AllByRecursion}
 use Rattle.std.specs.Ordering.{is_lt, is_gt}
 use Rattle.std.specs.declared.cmp.Ordering.{Ordering}
 use Rattle.std.specs.declared.cmp.Ordering.TheVariants.{Less, Equal, Greater}
-use Rattle.std.proofs.lemmas.Bool.{le-leb}
+use Rattle.std.proofs.lemmas.Bool.{le-leb, and_parts, and_from}
 use Rattle.std.proofs.lemmas.List.{append-nil}
 use Rattle.coding.specs.Answers.{◌>>=◌}
 use Rattle.coding.specs.declared.fault.Fault.{Fault}
@@ -14,6 +14,7 @@ use Rattle.block.specs.EncodedEntry.{Entry}
 use Rattle.block.specs.BuilderView.{last_key}
 use Rattle.ikey.specs.Key.{internal_key_reading}
 use Rattle.ikey.specs.Order.{internal_cmp}
+use Rattle.ikey.proofs.Ordered.{is_lt-true}
 use Rattle.table.specs.declared.handle.BlockHandle.{BlockHandle}
 use Rattle.table.specs.Handle.{handle_bytes, handle_reading, HandleBehind}
 use Rattle.table.proofs.Handles.{handle_reading-spelled, reads_handle}
@@ -23,9 +24,8 @@ use Rattle.table.specs.IndexReading.{IndexEntry, handle_alone, one_handle, store
 use Rattle.table.specs.TableContents.{DataBlock, blocks_reading, is_between_index_keys, index_fits, entries_of}
 use Rattle.table.specs.EntriesFrom.{EntriesRise}
 use Rattle.table.specs.TableBytes.{AreNamed, IsBelowNextBlock, AreBetween, AreBytes}
-use Rattle.block.proofs.BlockReadings.{both, join}
 use Rattle.table.proofs.CheckedTables.{read_block}
-use Rattle.table.proofs.EntryTests.{AllAbove, less_is, key_same, passes, behind_again}
+use Rattle.table.proofs.EntryTests.{AllAbove, key_same, passes, behind_again}
 use Rattle.table.proofs.StoredTables.{bind_is, stands_read, stands_fit, read_stands}
 
 -- ---- entries
@@ -183,7 +183,7 @@ is_not_greater Greater h = absurd (h refl)
 
 above_next : (cmp : List ℕ → List ℕ → Ordering) (below : Option (List ℕ)) (b : DataBlock) (bs : List DataBlock) → is_above cmp below (first_key b.entries) ≡ true → IsAboveNext cmp below (b ∷ bs)
 above_next cmp None b bs h = tt
-above_next cmp (Some k) b bs h = less_is (internal_cmp cmp k (first_key b.entries)) h
+above_next cmp (Some k) b bs h = is_lt-true (internal_cmp cmp k (first_key b.entries)) h
 
 is_above_next : (cmp : List ℕ → List ℕ → Ordering) (below : Option (List ℕ)) (b : DataBlock) (bs : List DataBlock) → IsAboveNext cmp below (b ∷ bs) → is_above cmp below (first_key b.entries) ≡ true
 is_above_next cmp None b bs h = refl
@@ -196,14 +196,14 @@ no_next cmp (Some k) = tt
 pub fits_between : (cmp : List ℕ → List ℕ → Ordering) (below : Option (List ℕ)) (bs : List DataBlock) → index_fits cmp below bs ≡ true → IsAboveNext cmp below bs × AreBetween cmp bs
 fits_between cmp below [] h = (no_next cmp below, tt)
 fits_between cmp below (b ∷ bs) h =
-    let a = both (is_between_index_keys cmp below b) (index_fits cmp (Some b.index_key) bs) h in
-    let c = both (is_above cmp below (first_key b.entries)) (not (is_gt (internal_cmp cmp (last_key [] b.entries) b.index_key))) a.0 in
+    let a = and_parts (is_between_index_keys cmp below b) (index_fits cmp (Some b.index_key) bs) h in
+    let c = and_parts (is_above cmp below (first_key b.entries)) (not (is_gt (internal_cmp cmp (last_key [] b.entries) b.index_key))) a.0 in
     let more = fits_between cmp (Some b.index_key) bs a.1 in
     (above_next cmp below b bs c.0, (not_greater (internal_cmp cmp (last_key [] b.entries) b.index_key) c.1, more.0, more.1))
 
 pub between_fits : (cmp : List ℕ → List ℕ → Ordering) (below : Option (List ℕ)) (bs : List DataBlock) → IsAboveNext cmp below bs → AreBetween cmp bs → index_fits cmp below bs ≡ true
 between_fits cmp below [] above h = refl
 between_fits cmp below (b ∷ bs) above h =
-    join (is_between_index_keys cmp below b) (index_fits cmp (Some b.index_key) bs)
-    (join (is_above cmp below (first_key b.entries)) (not (is_gt (internal_cmp cmp (last_key [] b.entries) b.index_key))) (is_above_next cmp below b bs above) (is_not_greater (internal_cmp cmp (last_key [] b.entries) b.index_key) h.0))
+    and_from (is_between_index_keys cmp below b) (index_fits cmp (Some b.index_key) bs)
+    (and_from (is_above cmp below (first_key b.entries)) (not (is_gt (internal_cmp cmp (last_key [] b.entries) b.index_key))) (is_above_next cmp below b bs above) (is_not_greater (internal_cmp cmp (last_key [] b.entries) b.index_key) h.0))
     (between_fits cmp (Some b.index_key) bs h.1 h.2)

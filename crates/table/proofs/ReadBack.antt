@@ -111,7 +111,7 @@ are_between cmp keys (p ∷ n ∷ ps) laws some h =
 
 -- ---- the keys of the index are internal keys
 
-all_split : (P : Entry → Type 0) (es fs : List Entry) → AllByRecursion P (es ++ fs) → AllByRecursion P es × AllByRecursion P fs
+pub all_split : (P : Entry → Type 0) (es fs : List Entry) → AllByRecursion P (es ++ fs) → AllByRecursion P es × AllByRecursion P fs
 all_split P [] fs h = (tt, h)
 all_split P (e ∷ es) fs h = let rest = all_split P es fs h.1 in ((h.0, rest.0), rest.1)
 

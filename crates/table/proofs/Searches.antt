@@ -1,5 +1,5 @@
 -- A search over the restarts of a block for an internal key.
-use Rattle.std.proofs.Common.{◌≡◌, ℕ, zero, suc, ◌+◌, ◌<◌, ◌≤◌, Bool, true, false, cond, List, [], ◌∷◌, length, drop, get_or, Some, None, refl, sym, ap, subst, ◌∙◌, true≢false, ◌-◌, Ok, arith}
+use Rattle.std.proofs.Common.{◌≡◌, ℕ, zero, suc, ◌+◌, ◌<◌, ◌≤◌, true, false, cond, List, [], ◌∷◌, length, drop, get_or, Some, None, refl, sym, ap, subst, ◌∙◌, true≢false, ◌-◌, Ok, arith}
 use Rattle.std.specs.List.{AllByRecursion, slice_get}
 use Rattle.std.specs.List.Sorted.{IsStrictlyIncreasing}
 use Rattle.std.specs.Cmp.{IsTotalOrder}
@@ -8,15 +8,15 @@ use Rattle.std.specs.Ordering.{is_lt}
 use Rattle.std.specs.declared.cmp.Ordering.{Ordering}
 use Rattle.std.specs.declared.cmp.Ordering.TheVariants.{Less}
 use Rattle.std.proofs.lemmas.Option.{get_or_from_slice_get, same_Some}
+use Rattle.std.proofs.lemmas.Bool.{false_from_ne_true}
 use Rattle.block.specs.EncodedEntry.{Entry}
 use Rattle.block.specs.BlockView.{BlockView}
 use Rattle.ikey.specs.Order.{internal_cmp}
-use Rattle.ikey.proofs.Ordered.{internal_cmp-total}
+use Rattle.ikey.proofs.Ordered.{internal_cmp-total, is_lt-true}
 use Rattle.table.specs.EntriesFrom.{EntriesRise, entries_from}
 use Rattle.table.specs.RestartSearch.{first_is_below, restart_is_below, IsLastBelow}
 use Rattle.table.specs.EntryTests.{HaveKeys}
 use Rattle.ikey.specs.Key.{internal_key_reading}
-use Rattle.table.proofs.EntryTests.{less_is}
 
 -- ---- entries in front of one that is below an internal key
 
@@ -24,7 +24,7 @@ use Rattle.table.proofs.EntryTests.{less_is}
 first_below : (cmp : List ℕ → List ℕ → Ordering) (target : List ℕ) (e : Entry) (es : List Entry) (place : ℕ) → IsTotalOrder cmp → AllByRecursion (λ f. internal_cmp cmp e.key f.key ≡ Less) es → first_is_below cmp target (drop place es) ≡ true → internal_cmp cmp e.key target ≡ Less
 first_below cmp target e [] zero total above below = absurd cc
 first_below cmp target e [] (suc place) total above below = absurd cc
-first_below cmp target e (f ∷ es) zero total above below = (internal_cmp-total total).trans e.key f.key target above.0 (less_is (internal_cmp cmp f.key target) below)
+first_below cmp target e (f ∷ es) zero total above below = (internal_cmp-total total).trans e.key f.key target above.0 (is_lt-true (internal_cmp cmp f.key target) below)
 first_below cmp target e (f ∷ es) (suc place) total above below = first_below cmp target e es place total above.1 below
 
 -- so is each that stands before it
@@ -95,17 +95,13 @@ places_rise places i j rises le lt =
     let e : i + (j - i) ≡ j = omega arith in
     subst (λ (n : ℕ). get_or places i 0 ≤ get_or places n 0) e (rises_to places i (j - i) rises (omega arith))
 
-not_below : (b : Bool) → (b ≡ true → ⊥) → b ≡ false
-not_below true h = absurd (h refl)
-not_below false h = refl
-
 pub search_falls : (cmp : List ℕ → List ℕ → Ordering) (target : List ℕ) (block : BlockView) (restart end middle : ℕ) → IsTotalOrder cmp → EntriesRise cmp block.entries → IsStrictlyIncreasing block.restarts
     → IsWithin cmp target block restart end → restart < middle → middle < end → restart_is_below cmp target block middle ≡ false → IsWithin cmp target block restart middle
 search_falls cmp target block restart end middle total rises places w order lt above = record {
   order = order;
   within = omega (arith, w.within);
   below = w.below;
-  last = λ later le within. not_below (restart_is_below cmp target block later) (λ below. true≢false
+  last = λ later le within. false_from_ne_true (restart_is_below cmp target block later) (λ below. true≢false
       (sym (before_below cmp target block.entries (get_or block.restarts middle 0) (get_or block.restarts later 0) total rises (places_rise block.restarts middle later places le within) below) ∙ above));
 }
 

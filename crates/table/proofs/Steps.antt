@@ -3,7 +3,7 @@ use Rattle.std.proofs.Common.{◌≡◌, ℕ, ◌+◌, ◌<◌, ◌≤◌, Bool,
 use Rattle.std.specs.Prelude.{IfOk, IfErr, IsOkAnd, slice_get}
 use Rattle.std.specs.Option.{option_map}
 use Rattle.std.specs.declared.cmp.Ordering.{Ordering}
-use Rattle.std.proofs.lemmas.List.{append-nil, drop_more, nil_from_length, length-drop}
+use Rattle.std.proofs.lemmas.List.{drop_more, nil_from_length, length-drop}
 use Rattle.std.proofs.lemmas.Option.{same_Some, none-some}
 use Rattle.coding.specs.Answers.{EqualOrMemory, FailsOrMemory, fault, ◌>>=◌}
 use Rattle.coding.specs.declared.fault.Fault.{Fault}
@@ -63,10 +63,6 @@ index_ends bytes front q e f total first refused so_far =
     let one : index_reading bytes q ≡ Err f =
     ap (index_reading bytes) first ∙ ap (λ (r : Result IndexEntry Fault). r >>= λ y. index_reading bytes (drop 1 q) >>= λ xs. Ok (y ∷ xs)) refused in
     sym so_far ∙ ap (with_front front) one
-
-pub index_done : (bytes : List ℕ) (front : List IndexEntry) (q : List Entry) (total : Result (List IndexEntry) Fault) → length q ≡ 0 → with_front front (index_reading bytes q) ≡ total → total ≡ Ok front
-index_done bytes front [] total none so_far = sym so_far ∙ ap (λ (xs : List IndexEntry). done xs) (append-nil front)
-index_done bytes front (e ∷ q) total none so_far = absurd (omega arith)
 
 -- ---- the entries of a data block
 

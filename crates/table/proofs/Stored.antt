@@ -1,7 +1,7 @@
 -- Contents are read of the bytes that they are stored as, and of no other bytes.
-use Rattle.std.proofs.Common.{◌≡◌, ℕ, suc, ◌+◌, ◌-◌, ◌^◌, ◌<◌, Bool, true, false, not, cond, eqb, List, [], ◌∷◌, ◌++◌, length, take, drop, get_or, Result, Ok, Err, refl, sym, ap, ◌∙◌, arith, append_assoc, length-append}
+use Rattle.std.proofs.Common.{◌≡◌, ℕ, suc, ◌+◌, ◌-◌, ◌^◌, ◌<◌, true, not, cond, eqb, List, [], ◌∷◌, ◌++◌, length, take, drop, get_or, Result, Ok, Err, refl, sym, ap, ◌∙◌, arith, append_assoc, length-append}
 use Rattle.std.proofs.Math.Seq.{take-suc, get_or-append_seam}
-use Rattle.std.proofs.lemmas.Bool.{eqb-true, eq-eqb}
+use Rattle.std.proofs.lemmas.Bool.{eqb-true, eq-eqb, not-false}
 use Rattle.std.proofs.lemmas.List.{take_at, drop_at, take-append-drop, length-drop, get_or-drop, append-nil}
 use Rattle.std.proofs.lemmas.Nat.{le_bytes_4}
 use Rattle.byteorder.specs.Endian.{little_bytes, little_number}
@@ -11,12 +11,8 @@ use Rattle.coding.specs.Answers.{fault}
 use Rattle.coding.specs.Crc.{crc32c, masked}
 use Rattle.coding.specs.declared.fault.Fault.{Fault}
 use Rattle.coding.specs.declared.fault.FaultName.TheVariants.{Trailer, Compressed, BlockType}
+use Rattle.coding.proofs.Binds.{guard_ok}
 use Rattle.table.specs.Trailer.{trailer_bytes, stored_block, stored_reading, StoredLaw, OnlyStoredLaw}
-
--- a test that did not fail
-guard_ok : {A : Type 0} (b : Bool) (d : Fault) (r : Result A Fault) (y : A) → cond b (Err d) r ≡ Ok y → (b ≡ false) × (r ≡ Ok y)
-guard_ok true d r y e = absurd (cc)
-guard_ok false d r y e = (refl, e)
 
 abbrev done : List ℕ → Result (List ℕ) Fault
 done x = Ok x
@@ -89,10 +85,6 @@ four_bytes : (bytes : List ℕ) → length bytes ≡ 4 → ((i : ℕ) → get_or
 four_bytes bytes len fits =
     sym (le_bytes_4 bytes (little_number 4 bytes) len fits (omega arith))
 
-negated : (b : Bool) → not b ≡ false → b ≡ true
-negated true e = refl
-negated false e = absurd (cc)
-
 record Passed (sum crc kind : ℕ) (front contents : List ℕ) : Type 0 where
   sum_is : sum ≡ crc
   kind_is : kind ≡ 0
@@ -104,7 +96,7 @@ read_by-Ok sum crc kind front contents e =
     let b = guard_ok (eqb kind 1) (fault Compressed) (plain kind front) contents a.1 in
     let c = guard_ok (not (eqb kind 0)) (fault BlockType) (done front) contents b.1 in
     let same : done front ≡ done contents = c.1 in
-    record { sum_is = eqb-true sum crc (negated (eqb sum crc) a.0); kind_is = eqb-true kind 0 (negated (eqb kind 0) c.0); front_is = cc }
+    record { sum_is = eqb-true sum crc (not-false (eqb sum crc) a.0); kind_is = eqb-true kind 0 (not-false (eqb kind 0) c.0); front_is = cc }
 
 -- bytes whose parts are these are the stored contents
 put_together : (bytes contents : List ℕ) (n : ℕ) → length bytes ≡ n + 5 → take n bytes ≡ contents → get_or bytes n 0 ≡ 0 → drop (n + 1) bytes ≡ little_bytes 4 (masked (crc32c (take (n + 1) bytes))) → bytes ≡ stored_block contents

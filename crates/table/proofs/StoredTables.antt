@@ -17,12 +17,14 @@ use Rattle.table.specs.declared.footer.Footer.{Footer}
 use Rattle.table.specs.Handle.{handle_bytes, handle_reading, HandleBehind}
 use Rattle.table.specs.Trailer.{stored_block, stored_reading}
 use Rattle.table.specs.Footer.{handles_bytes, magic, handles_reading, footer_reading}
-use Rattle.table.proofs.Handles.{handle_reading-spelled, reads_handle, found_first}
+use Rattle.table.proofs.Handles.{handle_reading-spelled, reads_handle}
 use Rattle.table.proofs.Stored.{length-stored, stored_again, only_stored}
+use Rattle.table.proofs.Footers.{read_by, footer_reading-by}
 use Rattle.block.specs.BlockReading.{block_reading}
 use Rattle.table.specs.IndexReading.{stored_at, block_in}
 use Rattle.table.specs.TableBytes.{IsStoredAt, EndsWith, AreBytes}
 use Rattle.block.proofs.BlockReadings.{reads_blocks}
+use Rattle.block.proofs.Pieces.{and_then_some}
 
 -- a step that did not fail
 pub bind_is : {A B : Type 0} (r : Result A Fault) (x : A) (f : A → Result B Fault) (y : Result B Fault) → r ≡ Ok x → f x ≡ y → (r >>= f) ≡ y
@@ -87,13 +89,6 @@ read_stands bytes handle there q fits at h =
 
 -- ---- the footer
 
-abbrev read_by : List ℕ → List ℕ → Result Footer Fault
-read_by handles last = cond (not (starts_with nat_eq last magic)) (Err (fault Magic)) (ok_or (handles_reading handles) (fault Handle))
-
-footer_reading-by : (bytes : List ℕ) → footer_reading bytes ≡ read_by (take 40 bytes) (drop 40 bytes)
-unfolding footer_reading
-footer_reading-by bytes = refl
-
 abbrev after_metaindex : HandleBehind → Option Footer
 after_metaindex metaindex = and_then (handle_reading metaindex.rest) (λ index. Some (record { metaindex = metaindex.handle; index = index.handle }))
 
@@ -134,8 +129,8 @@ record Handles (bytes : List ℕ) (f : Footer) : Type 0 where
 
 handles_of : (bytes : List ℕ) (f : Footer) → handles_reading bytes ≡ Some f → Handles bytes f
 handles_of bytes f h =
-    let a = found_first (handle_reading bytes) after_metaindex f h in
-    let b = found_first (handle_reading a.0.rest) (λ index. Some (record { metaindex = a.0.handle; index = index.handle })) f a.2 in
+    let a = and_then_some (handle_reading bytes) after_metaindex f h in
+    let b = and_then_some (handle_reading a.0.rest) (λ index. Some (record { metaindex = a.0.handle; index = index.handle })) f a.2 in
     let m = reads_handle bytes a.0.handle.offset a.0.handle.size a.0.rest a.1 in
     let i = reads_handle a.0.rest b.0.handle.offset b.0.handle.size b.0.rest b.1 in
     subst (Handles bytes) (same_Some _ _ b.2)

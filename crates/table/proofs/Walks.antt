@@ -11,6 +11,7 @@ use Rattle.std.specs.declared.cmp.Ordering.{Ordering}
 use Rattle.std.specs.declared.cmp.Ordering.TheVariants.{Less, Equal, Greater}
 use Rattle.std.proofs.lemmas.List.{nil_from_length, drop-drop}
 use Rattle.std.proofs.lemmas.Option.{same_Some, none-some}
+use Rattle.std.proofs.lemmas.Bool.{and_parts}
 use Rattle.coding.specs.Answers.{◌>>=◌}
 use Rattle.coding.specs.declared.fault.Fault.{Fault}
 use Rattle.coding.proofs.Binds.{done, bind_ok, ok_is}
@@ -18,7 +19,7 @@ use Rattle.block.specs.EncodedEntry.{Entry, IsBlock}
 use Rattle.block.specs.BuilderView.{last_key}
 use Rattle.ikey.specs.Key.{internal_key_reading, user_of}
 use Rattle.ikey.specs.Order.{internal_cmp}
-use Rattle.ikey.proofs.Ordered.{internal_cmp-total}
+use Rattle.ikey.proofs.Ordered.{internal_cmp-total, is_lt-true}
 use Rattle.table.specs.declared.handle.BlockHandle.{BlockHandle}
 use Rattle.table.specs.Handle.{HandleBehind, handle_reading}
 use Rattle.table.specs.Trailer.{stored_reading}
@@ -31,10 +32,10 @@ use Rattle.table.specs.SoundTables.{IsChecked}
 use Rattle.table.specs.EntriesFrom.{EntriesRise, entries_from}
 use Rattle.table.specs.RestartSearch.{first_is_below}
 use Rattle.table.specs.IndexWalk.{block_named, entries_named, all_named, NamesBlock, Indexes, IsWalkLeft}
-use Rattle.block.proofs.BlockReadings.{both, reads_blocks}
+use Rattle.block.proofs.BlockReadings.{reads_blocks}
 use Rattle.table.proofs.Searches.{from_place}
 use Rattle.table.proofs.CheckedTables.{read_block, read_data, blocks_are, contents_are, users_of}
-use Rattle.table.proofs.EntryTests.{key_same, less_is, have_keys, data_tests, all_tests, AllAbove, all_above, rising}
+use Rattle.table.proofs.EntryTests.{key_same, have_keys, data_tests, all_tests, AllAbove, all_above, rising}
 
 -- ---- the data block that an entry of the index names
 
@@ -121,7 +122,7 @@ names_block cmp bytes before i x q total r block tests last =
 above_first : (cmp : List ℕ → List ℕ → Ordering) (below : Option (List ℕ)) (q : List Entry) (k : List ℕ) → IsTotalOrder cmp → 0 < length q → AllByRecursion (λ e. is_le (internal_cmp cmp e.key k) ≡ true) q → is_above cmp below (first_key q) ≡ true → is_above cmp below k ≡ true
 above_first cmp below [] k total some within above = absurd (omega arith)
 above_first cmp None (e ∷ q) k total some within above = refl
-above_first cmp (Some b) (e ∷ q) k total some within above = ap is_lt (before_within cmp b e.key k total (less_is (internal_cmp cmp b e.key) above) within.0)
+above_first cmp (Some b) (e ∷ q) k total some within above = ap is_lt (before_within cmp b e.key k total (is_lt-true (internal_cmp cmp b e.key) above) within.0)
 
 none_above : (cmp : List ℕ → List ℕ → Ordering) (below : Option (List ℕ)) → AllAbove cmp below []
 none_above cmp None = tt
@@ -144,8 +145,8 @@ name_all cmp bytes before below (e ∷ es) index blocks total h k fits =
     let c = bind_ok (index_reading bytes es) (λ xs. Ok (a.0 ∷ xs)) index a.2 in
     let r = read_block cmp before a.0 c.0 blocks (ap (blocks_reading cmp before) (ok_is (a.0 ∷ c.0) index c.2) ∙ k) in
     let b : DataBlock = record { index_key = a.0.key; entries = r.entries } in
-    let f = both (is_between_index_keys cmp below b) (index_fits cmp (Some a.0.key) r.others) (subst (λ (bs : List DataBlock). index_fits cmp below bs ≡ true) (sym r.same) fits) in
-    let g = both (is_above cmp below (first_key r.entries)) (not (is_gt (internal_cmp cmp (last_key [] r.entries) a.0.key))) f.0 in
+    let f = and_parts (is_between_index_keys cmp below b) (index_fits cmp (Some a.0.key) r.others) (subst (λ (bs : List DataBlock). index_fits cmp below bs ≡ true) (sym r.same) fits) in
+    let g = and_parts (is_above cmp below (first_key r.entries)) (not (is_gt (internal_cmp cmp (last_key [] r.entries) a.0.key))) f.0 in
     let read = reads bytes e a.0 a.1 in
     let here : entries_named bytes e ≡ r.entries = named_entries bytes e r.entries (read.block ∙ r.block) in
     let names = names_block cmp bytes before e a.0 r.entries total read r.block r.tests g.1 in

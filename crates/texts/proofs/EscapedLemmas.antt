@@ -1,5 +1,5 @@
 -- What escaped texts are read as.
-use Rattle.std.proofs.Common.{◌≡◌, ◌≢◌, ℕ, suc, ◌+◌, ◌*◌, ◌/◌, ◌%◌, ◌<◌, ◌≤◌, ◌==◌, Bool, true, false, if◌then◌else◌, List, [], ◌∷◌, ◌++◌, Option, Some, None, length, get_or, drop, slice_index, refl, sym, ap, ◌∙◌, append_assoc, append-nil, arith}
+use Rattle.std.proofs.Common.{◌≡◌, ◌≢◌, ℕ, suc, ◌+◌, ◌*◌, ◌/◌, ◌%◌, ◌<◌, ◌≤◌, ◌==◌, Bool, true, false, if◌then◌else◌, List, [], ◌∷◌, ◌++◌, Option, Some, None, length, get_or, drop, slice_index, refl, sym, ap, ◌∙◌, append-nil, arith}
 use Rattle.std.specs.List.{flat_map}
 use Rattle.std.specs.Option.{option_map}
 use Rattle.std.specs.Str.{bytes_eq}
@@ -152,16 +152,6 @@ bytes_of_escaped-escaped wide first (b ∷ bytes) late fits = step (bytes_eq (b 
 -- what was read, before what the rest is read as
 abbrev pub with_front : List ℕ → Option (List ℕ) → Option (List ℕ)
 with_front front rest = option_map (λ bytes. front ++ bytes) rest
-
--- nothing was read yet
-pub with_front-nil : (rest : Option (List ℕ)) → with_front [] rest ≡ rest
-with_front-nil None = refl
-with_front-nil (Some bytes) = refl
-
--- a byte more was read
-pub with_front-more : (front : List ℕ) (b : ℕ) (rest : Option (List ℕ)) → with_front (front ++ b ∷ []) rest ≡ with_front front (joined (Some b) rest)
-with_front-more front b None = refl
-with_front-more front b (Some bytes) = ap (λ (xs : List ℕ). Some xs) (append_assoc front (b ∷ []) bytes)
 
 -- all was read
 pub with_front-all : (front text : List ℕ) → length text ≡ 0 → with_front front (unescaped text) ≡ Some front

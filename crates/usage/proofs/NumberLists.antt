@@ -32,14 +32,6 @@ module _ (numerals : List (Bor Text)) (i : ℕ) (d : Bor Text) (lt : i < length 
             ∙ sym (map-append (digits_value 10) (texts_of (take i numerals)) (text ∷ [])),
       )
 
--- none is read yet
-pub read_none : (numerals : List (Bor Text)) → AreNumbers (texts_of (take 0 numerals)) []
-read_none numerals = (All-nil IsNumberText, refl)
-
--- all are
-pub read_all : (numerals : List (Bor Text)) (i : ℕ) (numbers : List ℕ) → i ≡ length numerals → AreNumbers (texts_of (take i numerals)) numbers → AreNumbers (texts_of numerals) numbers
-read_all numerals i numbers all so_far = subst (λ (ns : List (Bor Text)). AreNumbers (texts_of ns) numbers) (ap (λ (k : ℕ). take k numerals) all ∙ take-length numerals) so_far
-
 -- the texts that were collected
 pub collected_texts : {E : Type 0} (r : Result (Vec (Bor Text)) E) (numerals : Vec (Bor Text)) (texts : List Text) → r ≡ Ok numerals → IfOk r (λ v. texts_of v.items ≡ texts)
     → texts_of numerals.items ≡ texts

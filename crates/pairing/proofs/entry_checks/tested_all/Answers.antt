@@ -6,7 +6,8 @@ use Rattle.block.specs.EncodedEntry.{Entry}
 use Rattle.pairing.specs.TestedUnion.{last_key_or, tested_entries}
 use Rattle.pairing.specs.declared.tested_entry.TestedEntry.{TestedEntry}
 use Rattle.pairing.specs.EntryTests.{file_entry_test, tested_after}
-use Rattle.pairing.proofs.TestedLists.{first_entry, goes_on, ends, with_front, entry_test_same}
+use Rattle.pairing.proofs.TestedLists.{goes_on, ends, with_front, entry_test_same}
+use Rattle.table.proofs.Steps.{first_entry}
 use Rattle.pairing.proofs.entry_checks.tested_all.Goals as goal
 
 pub returns-in_err-tested : goal.returns-in_err-tested

@@ -1,4 +1,5 @@
-use Rattle.std.proofs.Common.{Bor, ◌≡◌, Bool, true, false, List, map, sym, ap, subst, ◌∙◌}
+use Rattle.std.proofs.Common.{Bor, ◌≡◌, true, false, List, map, sym, ap, subst, ◌∙◌}
+use Rattle.std.proofs.lemmas.Bool.{both_ways}
 use Rattle.edit.specs.declared.meta.FileMeta.{FileMeta}
 use Rattle.reads.specs.declared.level_file.LevelFile.{LevelFile}
 use Rattle.reads.specs.FileChecks.{AreInTurn, AreListed}
@@ -6,15 +7,12 @@ use Rattle.reads.proofs.Listed.{listed_in_turn}
 use Rattle.reads.proofs.StandingFiles.{all_added, standing_of}
 use Rattle.reads.proofs.lawfulness.files_newest_first.Goals as goal
 
-clash : (b : Bool) → b ≡ true → b ≡ false → ⊥
-clash b e k = let both : true ≡ false = sym e ∙ k in absurd cc
-
 pub returns-then-not-are_in_turn-clause-standing : goal.returns-then-not-are_in_turn-clause-standing
 returns-then-not-are_in_turn-clause-standing g c = λ tables lawful.
     let cmp = g.C.Comparator.cmp in
     let v = c.args.version.now in
     let listing = subst (AreListed cmp v.files) (sym c.deref.ensures.value) c.in_ok-files.ensures.listed in
-    clash c.are_in_turn.result (c.are_in_turn.ensures.1 (listed_in_turn cmp g.met.C.Comparator.total v tables c.deref.result.now listing lawful)) c.if-not-are_in_turn.true
+    both_ways c.are_in_turn.result c.if-not-are_in_turn.true (c.are_in_turn.ensures.1 (listed_in_turn cmp g.met.C.Comparator.total v tables c.deref.result.now listing lawful))
 
 pub returns-then-not-are_in_turn-clause-added : goal.returns-then-not-are_in_turn-clause-added
 returns-then-not-are_in_turn-clause-added g c =

@@ -7,9 +7,10 @@ use Rattle.ikey.proofs.Refusals.{unless_from}
 use Rattle.block.specs.EncodedEntry.{Entry}
 use Rattle.ikey.specs.Bytewise.{bytewise_cmp}
 use Rattle.table.proofs.Walks.{none_valid}
+use Rattle.table.proofs.Steps.{first_entry}
 use Rattle.merge.specs.MergedLists.{merged}
 use Rattle.pairing.specs.TestedUnion.{distinct_after, is_after_key, last_key_or, tested_entries, union_of}
-use Rattle.pairing.proofs.TestedLists.{with_front, first_entry}
+use Rattle.pairing.proofs.TestedLists.{with_front}
 use Rattle.pairing.proofs.RangeUnions.{begins_with, begins_behind, goes_on_behind, ends_behind, is_done_behind, merged_limited, first_limited, rest_limited}
 use Rattle.pairing.proofs.range_pair.RangePair.union.Goals as goal
 

@@ -11,6 +11,7 @@ use Rattle.std.proofs.lemmas.List.{length-map, take_all}
 use Rattle.std.proofs.lemmas.List.Elements.{Contains-append_cases, Contains-append_left, Contains-append_right}
 use Rattle.std.proofs.lemmas.Slice.Eq.{bytes_eq-Decides}
 use Rattle.std.proofs.lemmas.Bool.{both_ways}
+use Rattle.std.proofs.lemmas.Option.{same_Some}
 use Rattle.table.specs.Comparator.{IsExact, KeyOrder}
 use Rattle.table.specs.Key.{user_of}
 use Rattle.table.specs.EntriesFrom.{NeverFalls}
@@ -18,8 +19,8 @@ use Rattle.reads.specs.Boundaries.{KeysRise}
 use Rattle.reads.specs.Ranges.{IsIn, KeyRange}
 use Rattle.table.specs.EncodedEntry.{Entry}
 use Rattle.table.proofs.Steps.{past_end}
+use Rattle.table.proofs.Ordered.{is_lt-true, is_lt-false}
 use Rattle.merge.specs.MergedLists.{entries_of_lists}
-use Rattle.checks.proofs.CommonRanges.{less_is, not_less}
 use Rattle.reads.proofs.Members.{first_in, first_or_later, from_filter, from_flat_map, from_map, in_filter, in_flat_map, in_map, none_in}
 use Rattle.reads.proofs.Orders.{not_before_itself}
 use Rattle.reads.proofs.Pairs.{Pairs, pairs_append, pairs_from, pairs_map, pairs_to, pairs_unmap}
@@ -221,19 +222,16 @@ module _ (cmp : KeyOrder) (total : IsTotalOrder cmp) (exact : IsExact cmp) (rang
     within_of : option_map_or (λ limit. is_lt (cmp user limit)) range.lower false ≡ false → IsIn cmp range user
     within_of h = record { from = from_of range.lower h; before = next.within }
       where
-        same_limit : (l x : List ℕ) → Some l ≡ Some x → l ≡ x
-        same_limit l x e = ap (λ (o : Option (List ℕ)). option_map_or (λ (k : List ℕ). k) o l) e
-
         from_of : (lower : Option (List ℕ)) → option_map_or (λ limit. is_lt (cmp user limit)) lower false ≡ false → ForSome lower (λ l. cmp user l ≢ Less)
         from_of None h = λ x e. absurd cc
-        from_of (Some l) h = λ x e. subst (λ (k : List ℕ). cmp user k ≢ Less) (same_limit l x e) (not_less (cmp user l) h)
+        from_of (Some l) h = λ x e. subst (λ (k : List ℕ). cmp user k ≢ Less) (same_Some l x e) (is_lt-false (cmp user l) h)
 
     before_out : option_map_or (λ limit. is_lt (cmp user limit)) range.lower false ≡ true → IsIn cmp range user → ⊥
     before_out h within = by range.lower h within.from
       where
         by : (lower : Option (List ℕ)) → option_map_or (λ limit. is_lt (cmp user limit)) lower false ≡ true → ForSome lower (λ l. cmp user l ≢ Less) → ⊥
         by None h from = absurd cc
-        by (Some l) h from = from l refl (less_is (cmp user l) h)
+        by (Some l) h from = from l refl (is_lt-true (cmp user l) h)
 
     -- what is added
     record IsNew (k : MisplacedKey) : Type 0 where

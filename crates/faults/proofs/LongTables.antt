@@ -1,66 +1,47 @@
--- Tables that have more bytes than a table may have.
-use Rattle.std.proofs.Common.{◌≡◌, ℕ, zero, suc, ◌^◌, Bool, true, false, not, nat_eq, nat_le, nat_lt, List, [], ◌∷◌, length, drop, take, Option, Some, None, Err, refl, sym, ap, ◌∙◌, arith}
+-- What is found of tables under two names, and of one that has more bytes than a table may have.
+use Rattle.std.proofs.Common.{◌≡◌, ℕ, ◌^◌, ◌<◌, false, nat_eq, List, length, drop, take, Option, Some, None, Err, refl, sym, ap, arith}
 use Rattle.std.specs.Prelude.{unwrap_or}
 use Rattle.std.specs.Option.{option_map, option_or, ok_or}
-use Rattle.std.proofs.lemmas.Bool.{le-ltb, lt-leb, ltb-true}
-use Rattle.std.proofs.lemmas.Bool.Decides.{Decides-ltb, nat_tests}
+use Rattle.std.proofs.lemmas.Bool.{eqb-false, lt-leb}
+use Rattle.std.proofs.lemmas.List.{length-drop, length-take}
 use Rattle.std.proofs.lemmas.Option.{same_Some}
 use Rattle.table.specs.Answers.{◌>>=◌, fault}
 use Rattle.table.specs.fault.FaultName.TheVariants.{Missing, Size}
 use Rattle.table.specs.Comparator.{KeyOrder}
 use Rattle.folder.specs.Folder.{part_of}
-use Rattle.table.specs.TableContents.{contents_reading, index_in}
+use Rattle.table.specs.TableContents.{contents_reading}
 use Rattle.table.proofs.CheckedTables.{index_refused}
 use Rattle.folder.specs.meta.FileMeta.{FileMeta}
-use Rattle.faults.specs.Findings.{finding_of, is_long, is_too_long}
+use Rattle.faults.specs.Findings.{finding_of, finding_under}
+use Rattle.faults.specs.declared.table_test.TableFinding.{TableFinding}
 use Rattle.faults.specs.declared.table_test.TableFinding.TheVariants.{Unreadable}
 
--- ---- they are refused
+refused : (cmp : KeyOrder) (bytes : List ℕ) → 2 ^ 30 < length bytes → contents_reading cmp bytes ≡ Err (fault Size)
+refused cmp bytes long = index_refused cmp bytes (fault Size) (rw (lt-leb (length bytes) (2 ^ 30) long) refl)
 
-not_most : (n : ℕ) → nat_lt (2 ^ 30) n ≡ true → nat_le n (2 ^ 30) ≡ false
-not_most n h = lt-leb n (2 ^ 30) (ltb-true (2 ^ 30) n h)
+-- a byte that is there is before the end
+some_behind : (n : ℕ) (bytes part : List ℕ) → take 1 (drop n bytes) ≡ part → nat_eq (length part) 0 ≡ false → n < length bytes
+some_behind n bytes part is some =
+    omega (arith, ap length is, eqb-false (length part) 0 some, length-take 1 (drop n bytes), length-drop n bytes)
 
-no_index : (bytes : List ℕ) → is_long bytes ≡ true → index_in bytes ≡ Err (fault Size)
-no_index bytes h = rw (not_most (length bytes) h) refl
+module _ (cmp : KeyOrder) (f : FileMeta) where
+  pub long_found : (held : Option (List ℕ)) (part : List ℕ) → option_map (part_of (2 ^ 30) 1) held ≡ Some part → nat_eq (length part) 0 ≡ false → Some (Unreadable Size) ≡ finding_under cmp f held
+  long_found None part h some = absurd cc
+  long_found (Some bytes) part h some =
+      ap (λ r. Some (finding_of f r)) (sym (refused cmp bytes (some_behind (2 ^ 30) bytes part (same_Some _ part h) some)))
 
-refused : (cmp : KeyOrder) (bytes : List ℕ) → is_long bytes ≡ true → contents_reading cmp bytes ≡ Err (fault Size)
-refused cmp bytes h = index_refused cmp bytes (fault Size) (no_index bytes h)
+  pub none_found : (held : Option (List ℕ)) → option_map (part_of (2 ^ 30) 1) held ≡ None → None ≡ finding_under cmp f held
+  none_found None h = refl
+  none_found (Some bytes) h = absurd cc
 
-pub long_found : (cmp : KeyOrder) (f : FileMeta) (held : Option (List ℕ)) → is_too_long held ≡ true → Unreadable Size ≡ finding_of f (ok_or held (fault Missing) >>= contents_reading cmp)
-long_found cmp f None h = absurd cc
-long_found cmp f (Some bytes) h = ap (finding_of f) (sym (refused cmp bytes h))
+  -- ---- of two names
 
--- ---- a byte after the most that a table may have
+  pub first_found : (a b : Option (List ℕ)) (finding : TableFinding) → Some finding ≡ finding_under cmp f a → finding ≡ finding_of f (ok_or (option_or a b) (fault Missing) >>= contents_reading cmp)
+  first_found None b finding h = absurd cc
+  first_found (Some bytes) b finding h = same_Some finding _ h
 
-none_below : (n : ℕ) → false ≡ nat_lt n 0
-none_below n = sym (le-ltb n 0 (omega arith))
-
-one_more : (n m : ℕ) → nat_lt n m ≡ nat_lt (suc n) (suc m)
-one_more n m = grind (arith, nat_tests)
-
-some_behind : (bytes : List ℕ) (n : ℕ) → not (nat_eq (length (take 1 (drop n bytes))) 0) ≡ nat_lt n (length bytes)
-some_behind [] zero = none_below 0
-some_behind [] (suc n) = none_below (suc n)
-some_behind (b ∷ bytes) zero = sym ((Decides-ltb 0 (length (b ∷ bytes))).1 (omega arith))
-some_behind (b ∷ bytes) (suc n) = some_behind bytes n ∙ one_more n (length bytes)
-
--- what a read of that byte tells
-pub long_part : (held : Option (List ℕ)) (part : List ℕ) → option_map (part_of (2 ^ 30) 1) held ≡ Some part → Some (not (nat_eq (length part) 0)) ≡ option_map is_long held
-long_part None part h = absurd cc
-long_part (Some bytes) part h =
-    ap (λ (b : Bool). Some b) (ap (λ (xs : List ℕ). not (nat_eq (length xs) 0)) (sym (same_Some (part_of (2 ^ 30) 1 bytes) part h)) ∙ some_behind bytes (2 ^ 30))
-
-pub no_part : (held : Option (List ℕ)) → option_map (part_of (2 ^ 30) 1) held ≡ None → None ≡ option_map is_long held
-no_part None h = refl
-no_part (Some bytes) h = absurd cc
-
--- ---- of two names
-
-pub first_long : (a b : Option (List ℕ)) (long : Bool) → Some long ≡ option_map is_long a → long ≡ is_too_long (option_or a b)
-first_long None b long h = absurd cc
-first_long (Some bytes) b long h = same_Some long (is_long bytes) h
-
-pub second_long : (a b : Option (List ℕ)) (found : Option Bool) → None ≡ option_map is_long a → found ≡ option_map is_long b → unwrap_or found false ≡ is_too_long (option_or a b)
-second_long (Some bytes) b found h k = absurd cc
-second_long None None found h k = ap (λ (o : Option Bool). unwrap_or o false) k
-second_long None (Some bytes) found h k = ap (λ (o : Option Bool). unwrap_or o false) k
+  pub second_found : (a b : Option (List ℕ)) (found : Option TableFinding) → None ≡ finding_under cmp f a → found ≡ finding_under cmp f b
+      → unwrap_or found (Unreadable Missing) ≡ finding_of f (ok_or (option_or a b) (fault Missing) >>= contents_reading cmp)
+  second_found (Some bytes) b found h k = absurd cc
+  second_found None None found h k = ap (λ (o : Option TableFinding). unwrap_or o (Unreadable Missing)) k
+  second_found None (Some bytes) found h k = ap (λ (o : Option TableFinding). unwrap_or o (Unreadable Missing)) k

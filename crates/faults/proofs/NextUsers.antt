@@ -10,13 +10,13 @@ use Rattle.std.proofs.lemmas.Option.{none-some, same_Some}
 use Rattle.table.specs.Comparator.{IsExact, KeyOrder}
 use Rattle.table.specs.Key.{user_of}
 use Rattle.table.specs.EncodedEntry.{Entry}
+use Rattle.table.proofs.Ordered.{is_lt-true, is_lt-false}
 use Rattle.merge.specs.LeastList.{IsMerging}
 use Rattle.merge.specs.MergedLists.{entries_of_lists}
 use Rattle.reads.proofs.EntriesInOrder.{behind_bound}
 use Rattle.reads.proofs.FallingEntries.{each_of}
 use Rattle.reads.proofs.Members.{first_in, from_flat_map, none_in}
 use Rattle.reads.proofs.Orders.{not_before_itself}
-use Rattle.checks.proofs.CommonRanges.{less_is, not_less}
 use Rattle.faults.specs.KeyWalk.{AreAllFrom, IsBelowBound, IsNextUser}
 
 in_lists : (lists : List (List Entry)) (place : ℕ) (list : List Entry) → slice_get lists place ≡ Some list → (e : Entry) → Contains list e → Contains (entries_of_lists lists) e
@@ -38,7 +38,7 @@ module _ (cmp : KeyOrder) where
 
   within_of : (user : List ℕ) (upper : Option (List ℕ)) → option_map_or (λ limit. is_lt (cmp user limit)) upper true ≡ true → IsBelowBound cmp upper user
   within_of user None h = λ x e. absurd cc
-  within_of user (Some l) h = λ x e. subst (λ (k : List ℕ). cmp user k ≡ Less) (same_Some l x e) (less_is (cmp user l) h)
+  within_of user (Some l) h = λ x e. subst (λ (k : List ℕ). cmp user k ≡ Less) (same_Some l x e) (is_lt-true (cmp user l) h)
 
   module _ (total : IsTotalOrder cmp) (exact : IsExact cmp) (lists : List (List Entry)) (place : ℕ) (m : IsMerging cmp lists (Some place)) (user : List ℕ) (is : user_of m.least.first.key ≡ user) where
     pub next_is : (upper : Option (List ℕ)) → option_map_or (λ limit. is_lt (cmp user limit)) upper true ≡ true → IsNextUser cmp upper (entries_of_lists lists) user
@@ -52,7 +52,7 @@ module _ (cmp : KeyOrder) where
 
     far_by : (upper : Option (List ℕ)) → option_map_or (λ limit. is_lt (cmp user limit)) upper true ≡ false → (e : Entry) → Contains (entries_of_lists lists) e → IsBelowBound cmp upper (user_of e.key) → ⊥
     far_by None h e at within = absurd cc
-    far_by (Some l) h e at within = behind_bound cmp total exact lists place m l (λ k. not_less (cmp user l) h (subst (λ (u : List ℕ). cmp u l ≡ Less) is k)) e at (within l refl)
+    far_by (Some l) h e at within = behind_bound cmp total exact lists place m l (λ k. is_lt-false (cmp user l) h (subst (λ (u : List ℕ). cmp u l ≡ Less) is k)) e at (within l refl)
 
     pub all_far : (upper : Option (List ℕ)) → option_map_or (λ limit. is_lt (cmp user limit)) upper true ≡ false → AreAllFrom cmp upper (entries_of_lists lists)
     all_far upper h = far_by upper h

@@ -7,7 +7,8 @@ use Rattle.std.specs.Cmp.{IsTotalOrder}
 use Rattle.std.specs.Ordering.{is_le, is_lt}
 use Rattle.std.proofs.lemmas.Bool.{and_from, and_parts, eq-eqb, eqb-true, lt-ltb, ltb-true, or_cases, or_left, or_right}
 use Rattle.table.proofs.Steps.{next_item}
-use Rattle.merge.proofs.Orders.{less_is, lt_le_trans}
+use Rattle.table.proofs.Ordered.{is_lt-true}
+use Rattle.merge.proofs.Orders.{lt_le_trans}
 use Rattle.table.specs.Comparator.{KeyOrder}
 use Rattle.table.specs.Order.{internal_cmp}
 use Rattle.folder.specs.meta.NewFile.{NewFile}
@@ -55,7 +56,7 @@ module _ {cmp : KeyOrder} (total : IsTotalOrder cmp) where
       by (inr (inr beside)) (inr same) =
           inr (inr (
             beside.0 ∙ same.0,
-            ap is_lt (lt_le_trans cmp total f.meta.largest g.meta.smallest h.meta.smallest (less_is (internal_cmp cmp f.meta.largest g.meta.smallest) beside.1) same.1),
+            ap is_lt (lt_le_trans cmp total f.meta.largest g.meta.smallest h.meta.smallest (is_lt-true (internal_cmp cmp f.meta.largest g.meta.smallest) beside.1) same.1),
           ))
 
   levels_differ : (a b : ℕ) (rest : Bool) → (a ≡ 0) ⊎ (a < b) → ((nat_lt 0 a && nat_eq a b) && rest) ≡ false

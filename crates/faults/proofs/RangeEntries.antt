@@ -1,6 +1,5 @@
 -- The entries of files in a range, and of the tables that the range needs.
-use Rattle.std.proofs.Common.{◌≡◌, ℕ, Bool, true, false, cond, not, List, [], ◌∷◌, ◌++◌, map, Result, Ok, refl, sym, ap, ap₂, subst, ◌∙◌, inl, inr}
-use Rattle.std.specs.Prelude.{◌⊎◌, ◌&&◌, ◌||◌}
+use Rattle.std.proofs.Common.{◌≡◌, ℕ, Bool, true, false, cond, List, [], ◌∷◌, ◌++◌, map, Result, Ok, refl, sym, ap, ap₂, subst, ◌∙◌, inl, inr}
 use Rattle.std.specs.List.{AllZip, filter}
 use Rattle.std.specs.Cmp.{IsTotalOrder}
 use Rattle.std.specs.Option.{option_map}
@@ -22,6 +21,7 @@ use Rattle.checks.specs.HeldTables.{AreFound}
 use Rattle.checks.specs.NeededFiles.{is_file_needed}
 use Rattle.merge.specs.Bounds.{is_user_before}
 use Rattle.checks.proofs.FileTables.{numbers_in}
+use Rattle.checks.proofs.NeededLemmas.{not_needed_by}
 use Rattle.faults.specs.VersionFault.{MisplacedKey}
 use Rattle.faults.specs.FileFaults.{file_reading}
 use Rattle.faults.specs.KeyFaults.{FileEntries, SearchedEntry, first_break, is_of, is_sound, misplaced_at, read_entries, read_file, searched_in, searched_of}
@@ -34,12 +34,6 @@ use Rattle.faults.proofs.UserEntries.{of_user, searched}
 -- the entries of a table
 abbrev pub table_file : NumberedContents → FileEntries
 table_file t = record { number = t.number; entries = t.contents.entries }
-
-not_needed_by : (begins earlier ends : Bool) → (begins && (not earlier || not ends)) ≡ false → (begins ≡ false) ⊎ (ends ≡ true)
-not_needed_by false earlier ends h = inl refl
-not_needed_by true false ends h = absurd cc
-not_needed_by true true true h = inr refl
-not_needed_by true true false h = absurd cc
 
 -- keys are misplaced by the entries of their user keys alone
 pub misplaced_same : (cmp : KeyOrder) (P : List ℕ → Type 0) (one two : List SearchedEntry) (keys : List MisplacedKey) → ((user : List ℕ) → P user → filter (is_of user) one ≡ filter (is_of user) two) → AreMisplacedIn cmp P one keys → AreMisplacedIn cmp P two keys

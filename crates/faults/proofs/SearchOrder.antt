@@ -16,7 +16,7 @@ use Rattle.std.proofs.lemmas.Map.Keys.{IsDistinct-IsPermutation}
 use Rattle.std.proofs.lemmas.Bool.{or_cases}
 use Rattle.table.specs.Comparator.{KeyOrder}
 use Rattle.table.specs.Order.{internal_cmp}
-use Rattle.table.proofs.Ordered.{internal_cmp-total}
+use Rattle.table.proofs.Ordered.{internal_cmp-total, is_lt-true}
 use Rattle.folder.specs.VersionOrder.{at_level}
 use Rattle.folder.specs.meta.FileMeta.{FileMeta}
 use Rattle.folder.specs.meta.NewFile.{NewFile}
@@ -30,7 +30,6 @@ use Rattle.reads.proofs.Members.{first_in, from_filter, from_map, in_map, later_
 use Rattle.reads.proofs.OrderedFiles.{Before, depth_at, top_at}
 use Rattle.reads.proofs.Orders.{less_is as number_less}
 use Rattle.reads.proofs.Pairs.{Pairs, pairs_append, pairs_both, pairs_map, pairs_to, pairs_unmap, pairs_weaker, pairs_within}
-use Rattle.checks.proofs.CommonRanges.{less_is}
 use Rattle.faults.specs.FileFaults.{are_disjoint, lies_before, overlap}
 use Rattle.faults.specs.KeyFaults.{is_deep, is_sound, is_top, metas_where, searched_files}
 use Rattle.faults.proofs.FileLists.{Follows, put_pairs}
@@ -130,9 +129,9 @@ module _ (cmp : KeyOrder) (total : IsTotalOrder cmp) (all : List NewFile) (follo
       let level : f.level ≡ g.level = at.0 in
       let disjoint : are_disjoint cmp f.meta g.meta ≡ true = disjoint_by (nat_lt 0 f.level) (nat_eq f.level g.level) (are_disjoint cmp f.meta g.meta) ((Decides-ltb 0 f.level).1 below) ((Decides-eqb f.level g.level).1 level) h in
       elim (or_cases (lies_before cmp f.meta g.meta) (lies_before cmp g.meta f.meta) disjoint) [
-        | inl first ↦ inr (level, depth_at cmp f g below (less_is (T f.meta.largest g.meta.smallest) first))
+        | inl first ↦ inr (level, depth_at cmp f g below (is_lt-true (T f.meta.largest g.meta.smallest) first))
         | inr back ↦
-            let behind : T g.meta.smallest f.meta.smallest ≡ Less = up_to T (internal_cmp-total total) g.meta.smallest g.meta.largest f.meta.smallest (ranges g (from_filter is_deep_file all g j).0) (less_is (T g.meta.largest f.meta.smallest) back) in
+            let behind : T g.meta.smallest f.meta.smallest ≡ Less = up_to T (internal_cmp-total total) g.meta.smallest g.meta.largest f.meta.smallest (ranges g (from_filter is_deep_file all g j).0) (is_lt-true (T g.meta.largest f.meta.smallest) back) in
             absurd (never_both T (internal_cmp-total total) g.meta.smallest f.meta.smallest behind (then_less (T f.meta.smallest g.meta.smallest) (nat_cmp f.meta.number g.meta.number) at.1))
       ]
 
@@ -193,7 +192,7 @@ module _ (cmp : KeyOrder) (total : IsTotalOrder cmp) (all : List NewFile) (follo
           ranges f (from_search f (subst (λ (fs : List NewFile). Contains fs f) (files_again list) (in_map file_in items (get_or items k d) (Contains-get_or items k d lt))))
 
       not_back : (f g : NewFile) → is_lt (newest_first_cmp cmp f g) ≡ true → is_lt (newest_first_cmp cmp g f) ≡ false
-      not_back f g h = ap is_lt ((newest_first_cmp-total total).antisymm g f ∙ ap ordering_reverse (less_is (newest_first_cmp cmp f g) h))
+      not_back f g h = ap is_lt ((newest_first_cmp-total total).antisymm g f ∙ ap ordering_reverse (is_lt-true (newest_first_cmp cmp f g) h))
 
       pub in_order : IsSortedBy (λ f g. is_lt (newest_first_cmp cmp (file_in f) (file_in g))) items
       in_order k d le lt =

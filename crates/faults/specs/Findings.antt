@@ -1,13 +1,12 @@
 -- What is wrong with files, by what the tests of their tables find.
-use Rattle.std.specs.Prelude.{◌≡◌, ℕ, nat_eq, nat_lt, Bool, false, not, ◌&&◌, List, [], ◌∷◌}
+use Rattle.std.specs.Prelude.{◌≡◌, ℕ, nat_eq, Bool, false, not, ◌&&◌, List, [], ◌∷◌}
 use Rattle.std.specs.Prelude.{◌++◌, length, map, filter, fold, Option, unwrap_or, Result, Ok, Err}
 use Rattle.std.specs.BTreeSet.{insert_key}
-use Rattle.std.specs.Option.{option_map_or}
+use Rattle.std.specs.Option.{option_map}
 use Rattle.std.specs.Str.{bytes_eq}
 use Rattle.table.specs.fault.Fault.{Fault}
 use Rattle.table.specs.Comparator.{KeyOrder}
-use Rattle.table.specs.TableContents.{Contents}
-use Rattle.table.specs.declared.table_check.TheConstants.{MAX_TABLE_LEN}
+use Rattle.table.specs.TableContents.{Contents, contents_reading}
 use Rattle.folder.specs.meta.FileMeta.{FileMeta}
 use Rattle.folder.specs.meta.NewFile.{NewFile}
 use Rattle.folder.specs.Calls.{Files}
@@ -22,20 +21,16 @@ use Rattle.faults.specs.declared.table_test.TableFinding.{TableFinding}
 use Rattle.faults.specs.declared.table_test.TableFinding.TheVariants.{Readable, Unreadable}
 use Rattle.faults.specs.declared.table_test.TestedFile.{TestedFile}
 
--- whether these are more bytes than a table may have
-abbrev pub is_long : List ℕ → Bool
-is_long bytes = nat_lt MAX_TABLE_LEN (length bytes)
-
--- the same of the bytes of a table; false if there are none
-abbrev pub is_too_long : Option (List ℕ) → Bool
-is_too_long held = option_map_or is_long held false
-
 -- what is found of a file's table, by what it holds
 abbrev pub finding_of : FileMeta → Result Contents Fault → TableFinding
 finding_of f (Err e) = Unreadable e.name
 finding_of f (Ok x) =
     Readable (length x.bytes) (bytes_eq f.smallest (smallest_of x))
     (bytes_eq f.largest (largest_of x))
+
+-- what is found of a file's table under a name; None if no file has this name
+abbrev pub finding_under : KeyOrder → FileMeta → Option (List ℕ) → Option TableFinding
+finding_under cmp f held = option_map (λ bytes. finding_of f (contents_reading cmp bytes)) held
 
 -- a file, and what is found of its table
 pub record FoundFile : Type 0 where

@@ -1,15 +1,14 @@
 //! The test of a file's table in a folder.
 
 ghost use Rattle.std.specs.Prelude.{◌≡◌, map, Ok, IfOk};
-ghost use Rattle.std.specs.Option.{option_map};
 ghost use Rattle.table.specs.Answers.{EqualOrMemory};
 ghost use Rattle.folder.specs.Calls.{Files, Tells};
 ghost use Rattle.folder.specs.OpenAnswer.{FolderAnswers};
 ghost use Rattle.folder.specs.Reports.{OnlyReads, ReportsDevice};
 ghost use Rattle.table.specs.TableContents.{contents_reading};
 ghost use Rattle.reads.specs.FileList.{level_file_in};
-ghost use Rattle.faults.specs.FileFaults.{file_reading, table_held};
-ghost use Rattle.faults.specs.Findings.{IsTestAnswer, finding_of, found_in, is_long, is_too_long};
+ghost use Rattle.faults.specs.FileFaults.{file_reading};
+ghost use Rattle.faults.specs.Findings.{IsTestAnswer, finding_of, finding_under, found_in};
 
 use folder::{FileMeta, Folder, old_table_name, table_name};
 use reads::LevelFile;
@@ -67,7 +66,7 @@ pub(crate) fn tested_files<'v, C: Comparator, F: Folder>(
     Ok(tested)
 }
 
-/// What the test of a file's table finds. It only reads. A table that is too long isn't read.
+/// What the test of a file's table finds. It only reads.
 fn table_finding<C: Comparator, F: Folder>(
     alloc: Global,
     folder: &mut F,
@@ -79,82 +78,39 @@ fn table_finding<C: Comparator, F: Folder>(
     ensures device { ReportsDevice F.Folder folder.old folder.new result }
     ensures reads { OnlyReads F.Folder folder.old folder.new }
 {
-    let is_over = is_too_long(alloc, folder, file.number)?;
-    if is_over {
-        return Ok(TableFinding::Unreadable(FaultName::Size));
+    let name = table_name(alloc, file.number)?;
+    let old_name = old_table_name(alloc, file.number)?;
+    let first = named_finding::<C, F>(alloc, folder, name.as_str(), file)?;
+    if let Some(finding) = first {
+        return Ok(finding);
     }
-    read_finding::<C, F>(alloc, folder, file)
+    let second = named_finding::<C, F>(alloc, folder, old_name.as_str(), file)?;
+    Ok(second.unwrap_or(TableFinding::Unreadable(FaultName::Missing)))
 }
 
-/// Whether the table of a number has more bytes than a table may have. It only reads, one byte at
-/// most.
-fn is_too_long<F: Folder>(alloc: Global, folder: &mut F, number: u64) -> Result<bool, Fault>
+/// What the test of a file's table under a name finds. None if no file has this name. It only
+/// reads: one byte at most of a table that is too long.
+fn named_finding<C: Comparator, F: Folder>(
+    alloc: Global,
+    folder: &mut F,
+    name: &str,
+    file: &FileMeta,
+) -> Result<Option<TableFinding>, Fault>
     ensures answer { (held : Files) → Tells (F.tells folder.old) held →
-        FolderAnswers (λ long. long) (F.failed folder.old) (F.failed folder.new) result
-        (λ answer. answer ≡ Ok (is_too_long (table_held held number))) }
-    ensures device { ReportsDevice F.Folder folder.old folder.new result }
-    ensures reads { OnlyReads F.Folder folder.old folder.new }
-{
-    let name = table_name(alloc, number)?;
-    let old_name = old_table_name(alloc, number)?;
-    let first = is_file_long(folder, name.as_str())?;
-    if let Some(long) = first {
-        return Ok(long);
-    }
-    let second = is_file_long(folder, old_name.as_str())?;
-    Ok(second.unwrap_or(false))
-}
-
-/// Whether a file has more bytes than a table may have. None if no file has this name. It only
-/// reads.
-fn is_file_long<F: Folder>(folder: &mut F, name: &str) -> Result<Option<bool>, Fault>
-    ensures answer { (held : Files) → Tells (F.tells folder.old) held →
-        FolderAnswers (λ long. long) (F.failed folder.old) (F.failed folder.new) result
-        (λ answer. answer ≡ Ok (option_map is_long (held name.now))) }
+        FolderAnswers (λ finding. finding) (F.failed folder.old) (F.failed folder.new) result
+        (λ answer. answer ≡ Ok (finding_under C.cmp file.now (held name.now))) }
     ensures device { ReportsDevice F.Folder folder.old folder.new result }
     ensures reads { OnlyReads F.Folder folder.old folder.new }
 {
     let Some(part) = folder.read_part(name, MAX_TABLE_LEN as u64, 1)? else {
         return Ok(None);
     };
-    Ok(Some(!part.as_slice().is_empty()))
-}
-
-/// What the test of a table that is read finds. It only reads.
-fn read_finding<C: Comparator, F: Folder>(
-    alloc: Global,
-    folder: &mut F,
-    file: &FileMeta,
-) -> Result<TableFinding, Fault>
-    ensures answer { (held : Files) → Tells (F.tells folder.old) held →
-        FolderAnswers (λ finding. finding) (F.failed folder.old) (F.failed folder.new) result
-        (λ answer. answer ≡ Ok (finding_of file.now (file_reading C.cmp held file.now.number))) }
-    ensures device { ReportsDevice F.Folder folder.old folder.new result }
-    ensures reads { OnlyReads F.Folder folder.old folder.new }
-{
-    let Some(bytes) = table_file_bytes(alloc, folder, file.number)? else {
-        return Ok(TableFinding::Unreadable(FaultName::Missing));
-    };
-    finding_in::<C>(alloc, file, &bytes)
-}
-
-/// The bytes of the table of a number. None if there is none. It only reads.
-fn table_file_bytes<F: Folder>(
-    alloc: Global,
-    folder: &mut F,
-    number: u64,
-) -> Result<Option<Vec<u8>>, Fault>
-    ensures answer { (held : Files) → Tells (F.tells folder.old) held →
-        FolderAnswers (option_map (λ v. v.items)) (F.failed folder.old) (F.failed folder.new) result
-        (λ answer. answer ≡ Ok (table_held held number)) }
-    ensures device { ReportsDevice F.Folder folder.old folder.new result }
-    ensures reads { OnlyReads F.Folder folder.old folder.new }
-{
-    let name = table_name(alloc, number)?;
-    let old_name = old_table_name(alloc, number)?;
-    match folder.read(name.as_str())? {
-        Some(bytes) => Ok(Some(bytes)),
-        None => Ok(folder.read(old_name.as_str())?),
+    if !part.as_slice().is_empty() {
+        return Ok(Some(TableFinding::Unreadable(FaultName::Size)));
+    }
+    match folder.read(name)? {
+        Some(bytes) => Ok(Some(finding_in::<C>(alloc, file, &bytes)?)),
+        None => Ok(None),
     }
 }
 

@@ -1,16 +1,10 @@
-//! The files that a compaction takes out of a version, and whether tables have filter blocks. No
-//! contract says which ones do.
+//! Whether tables have filter blocks. No contract says which ones do.
 
-ghost use Rattle.std.specs.Prelude.{◌≤◌};
-ghost use Rattle.edit.specs.declared.meta.TheConstants.{LAST_LEVEL};
 ghost use Rattle.folder.specs.Reports.{OnlyReads};
 
 use coding::Fault;
-use edit::{DeletedFile, LEVELS, Version};
 use folder::{Folder, old_table_name, table_name};
-use ikey::Bytewise;
 use std::alloc::Global;
-use std::collections::BTreeSet;
 use table::{BlockHandle, FOOTER_LEN, Footer};
 
 /// How the name of a filter block begins in a table's metaindex.
@@ -18,39 +12,6 @@ const FILTER: &[u8] = b"filter.";
 
 /// How many bytes of a metaindex are read: LevelDB's has one short name.
 const METAINDEX_LEN: u64 = 4_096;
-
-/// The number and the length of each file of a version that is `deleted`: of the inputs of a
-/// compaction.
-pub fn deleted_files(
-    alloc: Global,
-    version: &Version,
-    deleted: &BTreeSet<DeletedFile>,
-) -> Result<Vec<(u64, u64)>, Fault> {
-    let mut files = Vec::new(alloc);
-    for level in 0..LEVELS {
-        push_deleted(alloc, &mut files, version, deleted, level)?;
-    }
-    Ok(files)
-}
-
-/// Appends those of a level.
-fn push_deleted(
-    alloc: Global,
-    files: &mut Vec<(u64, u64)>,
-    version: &Version,
-    deleted: &BTreeSet<DeletedFile>,
-    level: u64,
-) -> Result<(), Fault>
-    requires { level ≤ LAST_LEVEL }
-{
-    for file in version.files::<Bytewise>(alloc, level)? {
-        let number = file.number;
-        if deleted.contains(&DeletedFile { level, number }) {
-            files.push((number, file.size))?;
-        }
-    }
-    Ok(())
-}
 
 /// Whether one of these tables of a folder, given by number and length, has a filter block, by the
 /// name of one in its metaindex. It only reads: of each table its footer and its metaindex, until

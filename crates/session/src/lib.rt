@@ -14,6 +14,7 @@
 #![tactic(auto)]
 
 mod amount_texts;
+mod compaction_inputs;
 mod explanations;
 mod filter_blocks;
 mod folder_files;
@@ -27,10 +28,11 @@ mod tested_sizes;
 mod user_files;
 
 pub use amount_texts::total_text;
+pub use compaction_inputs::deleted_files;
 pub use disk::Disk;
 pub use edit::{FileMeta, LAST_LEVEL, LEVELS};
 pub use explanations::{CLOSE_ONCE, Words, in_words, of_file};
-pub use filter_blocks::{deleted_files, have_filter};
+pub use filter_blocks::have_filter;
 pub use folder::{Bytewise, Comparator, Opened, Order, Shortlex, manifest_name};
 pub use folder_files::{
     UnneededFiles, is_there, logs_with_writes, missing_log, names_in, path_in, replayed_log,

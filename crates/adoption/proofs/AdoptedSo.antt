@@ -1,6 +1,6 @@
 -- What an adopted edit is known to be.
 use Rattle.std.proofs.Common.{◌≡◌, ℕ, ◌-◌, ◌<◌, ◌^◌, nat_lt, Bool, true, false, ◌&&◌, List, [], ◌∷◌, unwrap_or, Option, Some, None, Ok, Err, refl, sym, ap, subst, ◌∙◌, inl, inr, arith, if◌then◌else◌}
-use Rattle.std.proofs.lemmas.Bool.{ltb-true}
+use Rattle.std.proofs.lemmas.Bool.{ltb-true, and_parts as two_parts}
 use Rattle.std.specs.List.{fold, list_all}
 use Rattle.std.specs.Option.{ok_or, option_map, option_or}
 use Rattle.std.proofs.lemmas.Option.{none-some, same_Some}
@@ -89,10 +89,6 @@ edited_if false files f next h = absurd (none-some next h)
 -- the version after an edit that applies
 pub edited_so : (v : State) (e : Edit) (next : State) → applied v e ≡ Some next → with_files v e (fold with_file (undeleted_files e.deleted v.files) e.added) ≡ next
 edited_so v e next h = edited_if (list_all (has_place v.files) e.deleted && are_new (undeleted_files e.deleted v.files) e.added) (fold with_file (undeleted_files e.deleted v.files) e.added) (with_files v e) next h
-
-two_parts : (a b : Bool) → (a && b) ≡ true → (a ≡ true) × (b ≡ true)
-two_parts true b h = (refl, h)
-two_parts false b h = absurd cc
 
 tested_if : (b : Bool) (files : List NewFile) (f : List NewFile → State) (next : State) → option_map f (if b then Some files else None) ≡ Some next → b ≡ true
 tested_if true files f next h = refl

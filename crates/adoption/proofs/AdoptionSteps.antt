@@ -1,7 +1,7 @@
 -- The steps of an adoption, as parts of a call.
 use Rattle.std.proofs.Common.{◌≡◌, ◌⊎◌, ℕ, List, Result, Ok, Err, IfOk, refl, inl, inr, codes}
 use Rattle.edit.proofs.Refusals.{only_memory, unless_from}
-use Rattle.edit.specs.Answers.{EqualOrMemory, FailsOrMemory, HoldsOrMemory, IsThen, UnlessMemory, fault}
+use Rattle.edit.specs.Answers.{FailsOrMemory, HoldsOrMemory, IsThen, UnlessMemory, fault}
 use Rattle.edit.specs.fault.Fault.{Fault}
 use Rattle.edit.specs.fault.FaultName.TheVariants.{Device, Memory}
 use Rattle.edit.specs.Comparator.{KeyOrder}
@@ -26,11 +26,6 @@ never_refused {Y = Y} y e h = only_memory e (Ok y ≡ Err e) (no_refusal y e) h
 pub holds_behind : {X Y B : Type 0} (view : X → B) (r : Result X Fault) (IsFirst : Result Y Fault → Type 0) (IsNext : Y → Result B Fault → Type 0) (a : Y) → IsFirst (Ok a) → HoldsOrMemory view r (IsNext a) → HoldsOrMemory view r (IsThen IsFirst IsNext)
 holds_behind view (Ok x) IsFirst IsNext a h given = (Ok a, (h, given))
 holds_behind view (Err e) IsFirst IsNext a h given = unless_from e (IsNext a (Err e)) (IsThen IsFirst IsNext (Err e)) (λ next. (Ok a, (h, next))) given
-
--- an answer that is determined
-pub equal_holds : {X Y : Type 0} (view : X → Y) (r : Result X Fault) (answer : Result Y Fault) (IsAnswer : Result Y Fault → Type 0) → ((a : Result Y Fault) → answer ≡ a → IsAnswer a) → EqualOrMemory view r answer → HoldsOrMemory view r IsAnswer
-equal_holds view (Ok x) answer IsAnswer f given = f (Ok (view x)) given
-equal_holds view (Err e) answer IsAnswer f given = unless_from e (answer ≡ Err e) (IsAnswer (Err e)) (f (Err e)) given
 
 pub ok_with : {T E : Type 0} (r : Result T E) (P Q : T → Type 0) → ((x : T) → P x → Q x) → IfOk r P → IfOk r Q
 ok_with (Ok x) P Q f h = f x h

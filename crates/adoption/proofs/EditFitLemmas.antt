@@ -1,7 +1,7 @@
 -- Whether an edit fits a version.
 use Rattle.std.proofs.Common.{◌≡◌, ℕ, suc, if◌then◌else◌, Result, None, ◌+◌, ◌<◌, ◌≤◌, Bool, true, false, ◌&&◌, List, ◌∷◌, length, drop, drop-cons, add-one, get_or, Option, Some, Ok, Err, refl, sym, ap, subst, ◌∙◌, arith, nat_eq, nat_lt}
 use Rattle.std.specs.Option.{is_some}
-use Rattle.std.proofs.lemmas.Bool.{eqb-true, ltb-true}
+use Rattle.std.proofs.lemmas.Bool.{eqb-true, ltb-true, and_parts as two_parts}
 use Rattle.std.specs.Option.{ok_or}
 use Rattle.std.specs.Bool.{Decides}
 use Rattle.std.specs.Cmp.Lexicographic.{pointwise, pointwise_decides}
@@ -32,10 +32,6 @@ rises_not last high files k f lt is outside =
     ap (rise_between last high) here ∙ ap (λ (b : Bool). b && rise_between f.meta.number high (drop (suc k) files)) outside
 
 -- ---- deletions
-
-two_parts : (a b : Bool) → (a && b) ≡ true → (a ≡ true) × (b ≡ true)
-two_parts true b h = (refl, h)
-two_parts false b h = absurd cc
 
 same_file : (a b : DeletedFile) → Decides (nat_eq a.level b.level && nat_eq a.number b.number) (a ≡ b)
 same_file a b = (

@@ -1,5 +1,5 @@
 -- The inputs of an edit that fits are closed inputs over the version, so reads survive.
-use Rattle.std.proofs.Common.{◌≡◌, ℕ, ◌+◌, ◌-◌, ◌<◌, ◌≤◌, nat_lt, Bool, true, false, eqb, cond, List, [], ◌∷◌, ◌++◌, map, Some, Option, Result, Ok, Err, refl, sym, ap, subst, ◌∙◌, inl, inr, arith, eqb-true}
+use Rattle.std.proofs.Common.{◌≡◌, ℕ, ◌+◌, ◌-◌, ◌<◌, ◌≤◌, nat_lt, Bool, true, false, eqb, cond, List, [], ◌∷◌, ◌++◌, map, Some, Option, Ok, Err, refl, sym, ap, subst, ◌∙◌, inl, inr, arith, eqb-true}
 use Rattle.std.specs.Prelude.{◌⊎◌, Contains}
 use Rattle.std.specs.List.{All, AllByRecursion, filter, fold}
 use Rattle.std.specs.Cmp.{IsTotalOrder}
@@ -11,7 +11,6 @@ use Rattle.std.proofs.lemmas.List.Elements.{All-contains, Contains-append_cases}
 use Rattle.edit.proofs.Tested.{is_eq-nat_cmp}
 use Rattle.edit.proofs.Binds.{ok_is}
 use Rattle.edit.specs.Answers.{fault}
-use Rattle.edit.specs.fault.Fault.{Fault}
 use Rattle.edit.specs.fault.FaultName.TheVariants.{Level}
 use Rattle.edit.specs.Comparator.{KeyOrder}
 use Rattle.edit.specs.Key.{IsInternalKey}
@@ -28,7 +27,7 @@ use Rattle.pick.specs.NumberedInputs.{chosen_files, numbered_answer, these_answe
 use Rattle.pick.specs.PickedInputs.{PickedInputs, files_from, input_at}
 use Rattle.pick.specs.declared.picked_inputs.InputFile.{InputFile}
 use Rattle.pick.proofs.Lists.{IsIn, any_from, any_gives, filter_in, same_test}
-use Rattle.keep.proofs.Members.{first_in, first_or_later, from_map, in_map, later_in, none_in}
+use Rattle.keep.proofs.Members.{first_or_later, from_map, in_map, none_in}
 use Rattle.keep.specs.Lawful.{IsLawful}
 use Rattle.keep.specs.Tables.{NumberedContents}
 use Rattle.compact.specs.EditOf.{deletion_of, deletions_of}
@@ -38,13 +37,9 @@ use Rattle.compact.proofs.ChosenNumbers.{closed_as}
 use Rattle.compact.proofs.ClosedLevels.{file_at, in_level}
 use Rattle.compact.proofs.Closing.{in_files_from}
 use Rattle.adoption.specs.EditFit.{deleted_numbers, only_pointer}
+use Rattle.store.proofs.PartFiles.{held_in, made, done}
 
 -- ---- elements
-
-held_in : {X : Type 0} (xs : List X) (q : X) → IsIn xs q → Contains xs q
-held_in [] q i = absurd i
-held_in (x ∷ xs) q (inl same) = subst (Contains (x ∷ xs)) (sym same) (first_in x xs)
-held_in (x ∷ xs) q (inr i) = later_in x xs q (held_in xs q i)
 
 in_held : {X : Type 0} (xs : List X) (q : X) → Contains xs q → IsIn xs q
 in_held [] q at = absurd (none_in q at)
@@ -134,9 +129,6 @@ pub record IsNumberedSo (cmp : KeyOrder) (v : State) (pointer : CompactPointer) 
   pub level_low : pointer.level ≤ 5
   pub these : p ≡ these_inputs cmp v pointer.level (chosen_files cmp v pointer.level (has_number_of numbers)) (chosen_files cmp v (pointer.level + 1) (has_number_of numbers)) pointer.key
 
-abbrev done : PickedInputs → Result PickedInputs Fault
-done p = Ok p
-
 some_given : (cmp : KeyOrder) (v : State) (level : ℕ) (upper lower : List FileMeta) (key : List ℕ) (p : PickedInputs) → these_answer cmp v level upper lower key ≡ done p → p ≡ these_inputs cmp v level upper lower key
 some_given cmp v level [] lower key p h = absurd cc
 some_given cmp v level (f ∷ upper) lower key p h = sym (ok_is (these_inputs cmp v level (f ∷ upper) lower key) p h)
@@ -152,10 +144,6 @@ numbered_so cmp v pointer numbers p h = by (nat_lt 5 pointer.level) refl h
     }
 
 -- ---- inputs over a lawful version
-
--- a file by its level and its metadata
-made : (f : NewFile) (level : ℕ) (m : FileMeta) → f.level ≡ level → f.meta ≡ m → f ≡ record { level = level; meta = m }
-made f level m own is = ap (λ (n : ℕ). record { level = n; meta = f.meta }) own ∙ ap (λ (x : FileMeta). record { level = level; meta = x }) is
 
 module _ (cmp : KeyOrder) (total : IsTotalOrder cmp) (v : State) (tables : List NumberedContents) (lawful : IsLawful cmp v tables) (low : All (λ (f : NewFile). f.level ≤ 6) v.files) (level : ℕ) (level_low : level ≤ 5) (key : List ℕ) (numbers : List ℕ) where
   abbrev test : FileMeta → Bool

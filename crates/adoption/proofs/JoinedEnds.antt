@@ -15,12 +15,13 @@ use Rattle.folder.specs.ReadsAs.{ReadsAs}
 use Rattle.folder.specs.Reports.{OnlyReads, ReportsDevice}
 use Rattle.folder.specs.declared.folder.Folder.{Ghosts}
 use Rattle.folder.specs.declared.order.Order.{Order}
-use Rattle.install.specs.Install.{manifest_bytes, next_version_tables, table_calls}
+use Rattle.install.specs.FolderChange.{change_of}
+use Rattle.install.specs.Install.{IsEditedBy, SurvivesCrash, manifest_bytes, next_version_tables, next_with, table_calls, version_with}
 use Rattle.install.proofs.Grouped.{groups_installed}
 use Rattle.compact.specs.GroupedAnswer.{table_sizes}
 use Rattle.store.specs.FolderRequest.{manifest_of}
 use Rattle.store.specs.NamedEdits.{AreNamed, IsNaming}
-use Rattle.store.specs.Step.{step_in}
+use Rattle.store.specs.Step.{step_by, step_in}
 use Rattle.store.specs.declared.compaction_step.CompactionStep.{CompactionStep}
 use Rattle.adoption.specs.TakenIn.{AreInstalledTogether, AreTaken, IsTakenInstalled, IsTakingStopped, version_in}
 use Rattle.adoption.specs.TakenOutcomes.{AreTakenInTurn, Given, IsLawfulAfter, IsLawfulSoFar, edits_in, given_tables, groups_of}
@@ -61,16 +62,21 @@ module _ {F : Type 0} (g : Ghosts F) (name : List ℕ) (cmp : KeyOrder) (total :
   installed (o ∷ before) turn outputs is written device lawful r n =
       let outcomes = o ∷ before in
       let read = subst (λ (b : List ℕ). IsEdit b n.edit) is n.read in
+      let edited = edited_in_turn cmp first v outcomes (one_edit_of cmp first v o before turn) n.edit (edit_bytes n.edit) read n.again in
+      let all = groups_installed name cmp first t.opened.now.manifest (manifest_of first) (groups_of outcomes) (edit_bytes n.edit) (manifest_bytes name cmp first (edit_bytes n.edit)) n.small total refl n.state n.snapshot start old new tt r written device.at_once device.later n.calls in
       record {
         outcomes = outcomes;
         in_turn = turn;
-        together = groups_joined outcomes;
         edit = n.edit;
         read = read;
-        edited = edited_in_turn cmp first v outcomes (one_edit_of cmp first v o before turn) n.edit (edit_bytes n.edit) read n.again;
-        installs = groups_installed name cmp first t.opened.now.manifest (manifest_of first) (groups_of outcomes) (edit_bytes n.edit) (manifest_bytes name cmp first (edit_bytes n.edit)) n.small total refl n.state n.snapshot start old new tt r written device.at_once device.later n.calls;
+        edited = edited;
+        run = all.run;
+        survives = λ order loaded named.
+            subst (λ (ts : List (ℕ × List ℕ)). IsEditedBy cmp first (manifest_of first) ts (edit_bytes n.edit) v → SurvivesCrash cmp order (version_with first loaded) (next_with cmp v ts loaded) (change_of g start new) r) (groups_joined outcomes)
+            (all.survives order v loaded named) edited;
+        before = λ order loaded named. all.before order v loaded named (subst (λ (ts : List (ℕ × List ℕ)). IsEditedBy cmp first (manifest_of first) ts (edit_bytes n.edit) v) (sym (groups_joined outcomes)) edited);
         lawful = λ files order loaded told reads. lawful files order loaded told reads;
-        step = subst (λ (outs : List (ℕ × ℕ)). IfOk r (λ step. step_in step ≡ record { outputs = outs; deleted = n.edit.deleted; manifest = manifest_of first; edit = edit_bytes n.edit })) outputs n.step;
+        step = subst (λ (outs : List (ℕ × ℕ)). IfOk r (λ step. step_in step ≡ step_by first outs n.edit)) outputs n.step;
       }
 
   pub installed_end : (r : Result CompactionStep Fault) (taken : AreTaken g cmp first t.comparison start old v t.written) → AreLawful taken.outcomes → IsNaming g name cmp first t.opened.now.manifest t.written old new r
@@ -128,4 +134,4 @@ module _ {F : Type 0} (g : Ghosts F) (name : List ℕ) (cmp : KeyOrder) (t : Tak
 
 -- no outcome was taken
 pub none_end : {F : Type 0} (g : Ghosts F) (name : List ℕ) (cmp : KeyOrder) (t : TakenOutcomes) (start old : F) (r : Result CompactionStep Fault) → t.written.edits.items ≡ [] → IsErrAnd r (λ e. e ≡ fault Apply) → IsTakenInstalled g name cmp start old old t r
-none_end g name cmp t start old r none is taken = inl (record { none = none; reads = record { same = λ n held. ((λ x. x), (λ x. x)); calls = refl }; refused = is })
+none_end g name cmp t start old r none is taken = inl (none, record { same = λ n held. ((λ x. x), (λ x. x)); calls = refl }, is)

@@ -1,5 +1,5 @@
 -- Walks over what is kept and over what outputs hold, side by side.
-use Rattle.std.proofs.Common.{◌≡◌, ℕ, zero, suc, ◌+◌, ◌<◌, Bool, true, false, ◌&&◌, List, [], ◌∷◌, length, drop, add-one, Option, Some, None, Ok, Err, refl, sym, ap, subst, ◌∙◌, arith, if◌then◌else◌}
+use Rattle.std.proofs.Common.{◌≡◌, ℕ, zero, suc, ◌+◌, Bool, true, false, ◌&&◌, List, [], ◌∷◌, drop, add-one, Option, Some, None, Ok, Err, refl, sym, ap, subst, ◌∙◌, if◌then◌else◌}
 use Rattle.std.specs.Prelude.{◌↔◌, slice_get}
 use Rattle.std.specs.Option.{option_map}
 use Rattle.std.proofs.lemmas.Option.{none-some, same_Some}
@@ -20,6 +20,7 @@ use Rattle.keep.specs.Marks.{CompactionContext}
 use Rattle.keep.specs.Runs.{DistinctLaw, Run, are_distinct, range_run, run_of}
 use Rattle.adoption.specs.KeptEntries.{HoldsKept}
 use Rattle.adoption.specs.Beginnings.{begins_with}
+use Rattle.std.proofs.lemmas.Bool.{and_parts as both_parts}
 
 -- ---- entries
 
@@ -36,10 +37,6 @@ same_bytes a b h = (bytes_eq-Decides a b).0 h
 
 bytes_same : (a : List ℕ) → bytes_eq a a ≡ true
 bytes_same a = (bytes_eq-Decides a a).1 refl
-
-both_parts : (a b : Bool) → (a && b) ≡ true → (a ≡ true) × (b ≡ true)
-both_parts true b h = (refl, h)
-both_parts false b h = absurd cc
 
 -- entries that begin with one are that one and the rest
 pub begins_so : (e : Entry) (es : List Entry) → begins_with e es ≡ true → es ≡ e ∷ drop 1 es
@@ -95,11 +92,6 @@ module _ (kept all left : List Entry) (place : ℕ) (key value : List ℕ) (is_k
   pub walked_off : begins_with entry left ≡ false → IsWalkedTo kept all place left → (false ≡ true) ↔ (kept ≡ all)
   walked_off begins h =
       (λ is. absurd (cc is), λ same. absurd (begins_not entry (drop (suc place) kept) left begins (sym here ∙ h.0 same)))
-
--- an entry that is next is there
-pub one_next : (e : Entry) (es : List Entry) → begins_with e es ≡ true → 0 < length es
-one_next e [] h = absurd cc
-one_next e (f ∷ fs) h = omega arith
 
 -- ---- the run of the whole range
 

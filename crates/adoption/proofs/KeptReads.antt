@@ -98,6 +98,7 @@ use Rattle.store.proofs.TablesAfter.{read_after, reads_after, same_after}
 use Rattle.store.specs.InputsCompaction.{RangesRise}
 use Rattle.adoption.specs.Adoption.{compared_request, outputs_in_edit}
 use Rattle.adoption.proofs.AdoptedSo.{edited_so}
+use Rattle.std.proofs.lemmas.Bool.{and_parts as and_both_of}
 
 -- ---- what input tables are
 
@@ -111,10 +112,6 @@ record AreRead (cmp : KeyOrder) (files : List InputFile) (loaded : List (ℕ × 
 bounds_passed : (b : Bool) (x : Unit {0}) → test_result b Bounds ≡ Ok x → b ≡ true
 bounds_passed true x h = refl
 bounds_passed false x h = absurd cc
-
-and_both_of : (a b : Bool) → (a && b) ≡ true → (a ≡ true) × (b ≡ true)
-and_both_of true b h = (refl, h)
-and_both_of false b h = absurd cc
 
 are_read : (cmp : KeyOrder) (files : List InputFile) (loaded : List (ℕ × List ℕ)) (contents : List Contents) → input_tables cmp files loaded ≡ Ok contents → AreRead cmp files loaded contents
 are_read cmp files loaded contents h =

@@ -9,12 +9,12 @@ use Rattle.keep.specs.declared.snapshots.Snapshots.{Snapshots}
 use Rattle.checks.specs.TestedTables.{IsTested}
 use Rattle.checks.specs.declared.version_totals.VersionTotals.{VersionTotals}
 use Rattle.store.proofs.Flow.{no_refusal}
-use Rattle.adoption.specs.Adoption.{IsFirstTested, IsVersionTested}
+use Rattle.adoption.specs.Adoption.{IsFirstTested}
 use Rattle.adoption.specs.TakenOutcomes.{IsLawfulSoFar}
 use Rattle.adoption.proofs.KeptReads.{IsKeptVersion, left_version}
 use Rattle.adoption.proofs.LaidTables.{one_loaded}
 use Rattle.edit.proofs.Refusals.{unless}
-use Rattle.edit.specs.Answers.{UnlessMemory, fault}
+use Rattle.edit.specs.Answers.{UnlessMemory, fault, ◌>>=◌}
 use Rattle.edit.specs.fault.Fault.{Fault}
 use Rattle.edit.specs.fault.FaultName.TheVariants.{Apply}
 use Rattle.edit.specs.Comparator.{IsExact, KeyOrder}
@@ -32,11 +32,13 @@ use Rattle.folder.proofs.ReportLemmas.{reports_after, reports_then}
 use Rattle.folder.proofs.RunLemmas.{runs_then}
 use Rattle.install.specs.Install.{next_version_tables, numbers_of, table_bytes_of, table_calls}
 use Rattle.keep.specs.Tables.{NumberedContents}
+use Rattle.keep.specs.TestResult.{test_result}
 use Rattle.checks.specs.LawfulTables.{IsLawfulTables}
 use Rattle.store.proofs.InstallPart.{still}
 use Rattle.install.specs.FolderChange.{change_of}
 use Rattle.compact.specs.GroupedAnswer.{table_sizes}
 use Rattle.store.specs.Compaction.{IsUnchanged}
+use Rattle.store.specs.Outcome.{IsTestAnswer}
 use Rattle.store.specs.declared.named_edits.WrittenTables.{WrittenTables}
 use Rattle.levels.proofs.Ends.{ended_calls}
 use Rattle.levels.proofs.LaidTables.{laid_twice}
@@ -44,7 +46,7 @@ use Rattle.levels.proofs.TablesStand.{version_stays}
 use Rattle.adoption.specs.Adoption.{Adoption, IsGiven}
 use Rattle.adoption.specs.AdoptedOutcome.{IsAdopted}
 use Rattle.adoption.specs.TakenIn.{AreTaken, IsTakingEnd, IsTakingStopped, version_in}
-use Rattle.adoption.specs.TakenOutcomes.{AreTakenInTurn, Given, IsGivenNext, IsLawfulAfter, given_if, given_tables, groups_of, has_opened_inputs}
+use Rattle.adoption.specs.TakenOutcomes.{AreTakenInTurn, Given, IsGivenNext, IsLawfulAfter, given_tables, groups_of, has_opened_inputs}
 use Rattle.adoption.specs.TakingSteps.{AreTestedOutputs, IsTakingOf}
 use Rattle.adoption.specs.declared.comparison.Comparison.{Comparison}
 use Rattle.adoption.specs.declared.comparison.Comparison.TheVariants.{LeftOut, With}
@@ -201,7 +203,7 @@ tested_tables cmp v files loaded t read (Err f, h) = absurd (no_refusal t f h.1)
 tested_tables cmp v files loaded t read (Ok found, (h, (Err f, k))) = absurd (no_refusal t f k.1)
 tested_tables cmp v files loaded t read (Ok found, (h, (Ok ts, k))) = (ts, subst (λ (l : List (ℕ × List ℕ)). IsLawfulTables cmp v l (Ok ts)) (one_loaded files (file_numbers cmp v) found loaded h read) k.0)
 
-pub version_tables : (cmp : KeyOrder) (v : State) (files : Files) (loaded : List (ℕ × List ℕ)) → AllZip (IsTableOf (IsFileIn files)) (file_numbers cmp v) loaded → IsVersionTested cmp files v (Ok tt) → (tables : List NumberedContents) × IsLawfulTables cmp v loaded (Ok tables)
+pub version_tables : (cmp : KeyOrder) (v : State) (files : Files) (loaded : List (ℕ × List ℕ)) → AllZip (IsTableOf (IsFileIn files)) (file_numbers cmp v) loaded → IsTestAnswer (Some 0) files cmp v (Ok tt) → (tables : List NumberedContents) × IsLawfulTables cmp v loaded (Ok tables)
 version_tables cmp v files loaded read (Err f, h) = absurd (no_refusal tt f h.1)
 version_tables cmp v files loaded read (Ok t, (h, is)) = tested_tables cmp v files loaded t read h
 
@@ -241,10 +243,14 @@ pub next_held : (cmp : KeyOrder) (first v : State) (tells : ToldFiles) (files : 
 next_held cmp first v tells files r h (Err e, (given, is)) = (Err e, (given_held cmp v tells files (Err e) h given, is))
 next_held cmp first v tells files r h (Ok o, (given, is)) = (Ok o, (given_held cmp v tells files (Ok o) h given, is))
 
+-- the outcome if it has just files of the first version as inputs, else Apply
+abbrev given_if : Given → Bool → Result Given Fault
+given_if given b = test_result b Apply >>= λ _. Ok given
+
 pub next_given : (cmp : KeyOrder) (tells : ToldFiles) (first v : State) (given : Given) → IsGiven cmp tells v (Ok given) → has_opened_inputs first given ≡ true → IsGivenNext cmp tells first v (Ok given)
-next_given cmp tells first v given h opened = (Ok given, (h, ap (λ (b : Bool). given_if b given) (sym opened)))
+next_given cmp tells first v given h opened = (Ok given, (h, ap (λ (b : Bool). given_if given b) (sym opened)))
 
 pub next_unopened : (cmp : KeyOrder) (tells : ToldFiles) (first v : State) (given : Given) (before now : ℕ) (e : Fault) → e ≡ fault Apply → IsGiven cmp tells v (Ok given) → has_opened_inputs first given ≡ false → UnlessMemory e (IsStopped before now e ⊎ IsGivenNext cmp tells first v (Err e))
 next_unopened cmp tells first v given before now e is h other =
     subst (λ (f : Fault). UnlessMemory f (IsStopped before now f ⊎ IsGivenNext cmp tells first v (Err f))) (sym is)
-    (unless (fault Apply) (IsStopped before now (fault Apply) ⊎ IsGivenNext cmp tells first v (Err (fault Apply))) (inr (Ok given, (h, ap (λ (b : Bool). given_if b given) (sym other)))))
+    (unless (fault Apply) (IsStopped before now (fault Apply) ⊎ IsGivenNext cmp tells first v (Err (fault Apply))) (inr (Ok given, (h, ap (λ (b : Bool). given_if given b) (sym other)))))

@@ -18,7 +18,7 @@ use Rattle.install.specs.Install.{IsEditedBy, numbers_of}
 use Rattle.install.proofs.Numbers.{among_append, numbers_in}
 use Rattle.pick.specs.declared.picked_inputs.InputFile.{InputFile}
 use Rattle.pick.proofs.Lists.{and_first, and_second}
-use Rattle.keep.proofs.Members.{first_in, first_or_later, from_filter, from_map, later_in, none_in}
+use Rattle.keep.proofs.Members.{first_or_later, from_filter, from_map, none_in}
 use Rattle.compact.specs.EditOf.{deletion_of}
 use Rattle.compact.proofs.AppliedEdit.{all_only, all_tests, none_tests}
 use Rattle.compact.proofs.Closing.{any_at}
@@ -36,13 +36,9 @@ use Rattle.adoption.specs.TakenOutcomes.{AreTakenInTurn, Given, edits_in, given_
 use Rattle.adoption.proofs.AdoptedSo.{IsAdoptedSo, IsCounted, adopted_so, counted_so, edited_so, places_so, rising_below}
 use Rattle.adoption.proofs.EditedVersion.{file_below, output_above, output_numbers}
 use Rattle.adoption.proofs.SortedMembers.{files_from}
+use Rattle.reads.proofs.FallingEntries.{of_each}
 
 -- ---- lists
--- what holds for each element holds for all
-of_each : {X : Type 0} (P : X → Type 0) (xs : List X) → ((x : X) → Contains xs x → P x) → AllByRecursion P xs
-of_each P [] h = tt
-of_each P (x ∷ xs) h = (h x (first_in x xs), of_each P xs (λ y at. h y (later_in x xs y at)))
-
 test_at : {X : Type 0} (p : X → Bool) (xs : List X) (x : X) → list_all p xs ≡ true → Contains xs x → p x ≡ true
 test_at p [] x h at = absurd (none_in x at)
 test_at p (y ∷ xs) x h at = elim (first_or_later y xs x at) [

@@ -22,12 +22,11 @@ use Rattle.pick.specs.PickedInputs.{PickedInputs}
 use Rattle.pick.specs.declared.picked_inputs.InputFile.{InputFile}
 use Rattle.keep.specs.Readable.{readable_of}
 use Rattle.keep.specs.declared.snapshots.Snapshots.{Snapshots}
-use Rattle.checks.specs.TestedTables.{IsTested}
 use Rattle.compact.specs.Request.{RequestView, request_test}
 use Rattle.store.specs.FolderRequest.{last_of, manifest_of}
 use Rattle.store.specs.InputsCompaction.{IsOrderlyAnswer, input_numbers, input_tables}
 use Rattle.store.specs.OpenedAfter.{IsEditAnswer}
-use Rattle.store.specs.Outcome.{OutcomeView, outcome_of}
+use Rattle.store.specs.Outcome.{IsTestAnswer, OutcomeView, outcome_of}
 use Rattle.adoption.specs.EditFit.{IsFitting}
 use Rattle.adoption.specs.KeptEntries.{IsKeptAnswer}
 use Rattle.adoption.specs.declared.comparison.Comparison.{Comparison}
@@ -42,15 +41,12 @@ adopted_next v e = max (unwrap_or e.next_file 0) (manifest_of v + 1)
 
 -- an edit as it is installed: with the counters of the version
 abbrev pub adopted : State → Edit → Edit
-adopted v e = record {
+adopted v e = record e {
   comparator = None;
   log_number = Some (unwrap_or v.log_number 0);
   previous_log = Some (unwrap_or v.previous_log 0);
   next_file = Some (adopted_next v e);
   last_sequence = Some (last_of v);
-  pointers = e.pointers;
-  deleted = e.deleted;
-  added = e.added;
 }
 
 -- that edit, or Numbers if no number is left after the manifest's
@@ -178,17 +174,12 @@ IsGivenTaken cmp files given comparison =
 
 -- ---- the version
 
--- what the test of a version answers, with the tables among these files, without its totals
-abbrev pub IsVersionTested : KeyOrder → Files → State → Result (Unit {0}) Fault → Type 0
-IsVersionTested cmp files v =
-    IsThen (IsTested (IsFileIn files) cmp v) (λ tested answer. answer ≡ Ok tt)
-
 -- if outputs are compared, the version that was opened is tested first,
 abbrev pub IsFirstTested : KeyOrder → Files → State → Comparison → Result (Unit {0}) Fault → Type 0
-IsFirstTested cmp files v (With snapshots) = IsVersionTested cmp files v
-IsFirstTested cmp files v LeftOut = λ answer. answer ≡ Ok tt
+IsFirstTested cmp files v (With snapshots) = IsTestAnswer (Some 0) files cmp v
+IsFirstTested cmp files v LeftOut = IsTestAnswer None files cmp v
 
 -- and else the one that outcomes leave, last
 abbrev pub IsLastTested : KeyOrder → Files → State → Comparison → Result (Unit {0}) Fault → Type 0
-IsLastTested cmp files v (With snapshots) = λ answer. answer ≡ Ok tt
-IsLastTested cmp files v LeftOut = IsVersionTested cmp files v
+IsLastTested cmp files v (With snapshots) = IsTestAnswer None files cmp v
+IsLastTested cmp files v LeftOut = IsTestAnswer (Some 0) files cmp v

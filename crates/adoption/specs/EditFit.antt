@@ -20,9 +20,8 @@ use Rattle.compact.specs.EditOf.{deletions_of}
 
 -- the compact pointer, if it is the only one
 abbrev pub only_pointer : List CompactPointer → Option CompactPointer
-only_pointer [] = None
 only_pointer (pointer ∷ []) = Some pointer
-only_pointer (pointer ∷ (other ∷ pointers)) = None
+only_pointer _ = None
 
 -- the numbers of the files that an edit deletes
 abbrev pub deleted_numbers : Edit → List ℕ
@@ -35,20 +34,17 @@ IsNumbered cmp v pointer numbers (Ok p) = numbered_answer cmp v pointer numbers 
 IsNumbered cmp v pointer numbers (Err e) = (e ≡ fault Apply)
     × ((refused : Fault) × (numbered_answer cmp v pointer numbers ≡ Err refused))
 
--- whether the files of these numbers are a closed choice for the level of inputs: these if they
--- are, else Apply
-abbrev pub IsClosedOf : KeyOrder → State → List ℕ → PickedInputs → Result PickedInputs Fault →
-    Type 0
-IsClosedOf cmp v numbers p (Ok same) = (same ≡ p)
-    × IsClosedChoice cmp v p.level (has_number_of numbers)
-IsClosedOf cmp v numbers p (Err e) = (e ≡ fault Apply)
-    × (IsClosedChoice cmp v p.level (has_number_of numbers) → ⊥)
+-- these inputs if that is so, else Apply
+abbrev pub AreTheseIf : Type 0 → PickedInputs → Result PickedInputs Fault → Type 0
+AreTheseIf IsSo p (Ok same) = (same ≡ p) × IsSo
+AreTheseIf IsSo p (Err e) = (e ≡ fault Apply) × (IsSo → ⊥)
 
--- the inputs that have these numbers; Apply if there are none, or they aren't closed
+-- the inputs that have these numbers; Apply if there are none, or their files aren't a closed
+-- choice for the level of the inputs
 abbrev pub IsChoiceOf : KeyOrder → State → CompactPointer → List ℕ → Result PickedInputs Fault →
     Type 0
-IsChoiceOf cmp v pointer numbers =
-    IsThen (IsNumbered cmp v pointer numbers) (IsClosedOf cmp v numbers)
+IsChoiceOf cmp v pointer numbers = IsThen (IsNumbered cmp v pointer numbers)
+    (λ p. AreTheseIf (IsClosedChoice cmp v p.level (has_number_of numbers)) p)
 
 -- whether the numbers of files rise, from above one number to below another
 abbrev pub rise_between : ℕ → ℕ → List NewFile → Bool
@@ -59,8 +55,7 @@ rise_between low high (f ∷ files) = (nat_lt low f.meta.number && nat_lt f.meta
 -- whether both numbers are set, and the files' numbers rise between them
 abbrev pub rise_within : Option ℕ → Option ℕ → List NewFile → Bool
 rise_within (Some low) (Some high) files = rise_between low high files
-rise_within (Some low) None files = false
-rise_within None high files = false
+rise_within _ _ files = false
 
 -- whether a sequence is set, and isn't above the last one, which is 0 if it isn't set
 abbrev pub is_reached : Option ℕ → Option ℕ → Bool
@@ -81,14 +76,10 @@ pub record IsEditFor (v : State) (p : PickedInputs) (e : Edit) : Type 0 where
   pub levels : list_all (λ (f : NewFile). nat_eq f.level (p.level + 1)) e.added ≡ true
   pub counted : are_counted v e ≡ true
 
--- these inputs if the edit is one for them, else Apply
-abbrev pub IsFitOf : State → Edit → PickedInputs → Result PickedInputs Fault → Type 0
-IsFitOf v e p (Ok same) = (same ≡ p) × IsEditFor v p e
-IsFitOf v e p (Err refused) = (refused ≡ fault Apply) × (IsEditFor v p e → ⊥)
-
 -- The inputs of the compaction that has this edit: the files that it deletes. Apply unless it has
 -- just one compact pointer, these files are closed inputs of that one's level, and the edit is one
 -- for them.
 abbrev pub IsFitting : KeyOrder → State → Edit → Result PickedInputs Fault → Type 0
 IsFitting cmp v e = IsThen (λ pointer. pointer ≡ ok_or (only_pointer e.pointers) (fault Apply))
-    (λ pointer. IsThen (IsChoiceOf cmp v pointer (deleted_numbers e)) (IsFitOf v e))
+    (λ pointer. IsThen (IsChoiceOf cmp v pointer (deleted_numbers e))
+    (λ p. AreTheseIf (IsEditFor v p e) p))

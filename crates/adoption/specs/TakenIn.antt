@@ -3,24 +3,26 @@ use Rattle.std.specs.Prelude.{◌≡◌, ◌⊎◌, ℕ, List, [], unwrap_or}
 use Rattle.std.specs.Prelude.{Result, Ok, Err, IfErr, IfOk, IsErrAnd, OnOk}
 use Rattle.edit.specs.Answers.{UnlessMemory, fault}
 use Rattle.edit.specs.fault.Fault.{Fault}
-use Rattle.edit.specs.fault.FaultName.TheVariants.{Apply}
+use Rattle.edit.specs.fault.FaultName.TheVariants.{Apply, Changed}
 use Rattle.edit.specs.Comparator.{KeyOrder}
 use Rattle.edit.specs.Edit.{Edit, IsEdit, edit_bytes}
 use Rattle.edit.specs.Version.{State}
 use Rattle.folder.specs.CallSequence.{MakesCalls}
 use Rattle.folder.specs.Calls.{Files, Tells}
+use Rattle.folder.specs.Manifest.{order_name}
 use Rattle.folder.specs.OpenAnswer.{IsStopped}
 use Rattle.folder.specs.ReadsAs.{ReadsAs}
 use Rattle.folder.specs.Reports.{OnlyReads, ReportsDevice}
 use Rattle.folder.specs.declared.folder.Folder.{Ghosts}
 use Rattle.folder.specs.declared.order.Order.{Order}
 use Rattle.install.specs.FolderChange.{change_of}
-use Rattle.install.specs.GroupedInstallation.{IsGroupedInstallation, asked_of, tables_of_groups}
-use Rattle.install.specs.Install.{IsEditedBy, SurvivesCrash, table_calls, version_with}
+use Rattle.install.specs.Install.{IsEditedBy, SurvivesCrash, calls_before_rename, current_calls}
+use Rattle.install.specs.Install.{manifest_bytes, next_with, table_calls, version_with}
+use Rattle.install.specs.InstallCalls.{IsInstallRun}
 use Rattle.compact.specs.GroupedAnswer.{table_sizes}
 use Rattle.store.specs.FolderRequest.{manifest_of}
 use Rattle.store.specs.Outcome.{OutcomeView, outcome_in}
-use Rattle.store.specs.Step.{step_in}
+use Rattle.store.specs.Step.{step_by, step_in}
 use Rattle.store.specs.declared.compaction_step.CompactionStep.{CompactionStep}
 use Rattle.store.specs.declared.named_edits.WrittenTables.{WrittenTables}
 use Rattle.adoption.specs.Adoption.{IsLastTested}
@@ -78,13 +80,6 @@ IsTakingEnd g cmp start old new t (Err e) =
     AreTaken g cmp t.opened.now.version t.comparison start old (version_in t) t.written →
     IsTakingStopped {T = TakenOutcome} g cmp t.opened.now.version start new (Err e)
 
--- no outcome was taken, so that nothing is installed
-pub record IsNoneTaken {F T : Type 0} (g : Ghosts F) (t : TakenOutcomes) (old new : F)
-    (result : Result T Fault) : Type 0 where
-  pub none : t.written.edits.items ≡ []
-  pub reads : OnlyReads g old new
-  pub refused : IsErrAnd result (λ e. e ≡ fault Apply)
-
 -- All outcomes were installed by one manifest, up to a call that failed: their tables, and the edit
 -- as which their edits read. It makes the version after all of them, which is lawful, and gets
 -- answer as they should. A crash at any moment leaves the first version or that one. At Ok it is
@@ -95,38 +90,34 @@ pub record AreInstalledTogether {F : Type 0} (g : Ghosts F) (name : List ℕ) (c
     (result : Result CompactionStep Fault) : Type 0 where
   pub outcomes : List Given
   pub in_turn : AreTakenInTurn cmp first outcomes v
-  pub together : tables_of_groups (groups_of outcomes) ≡ given_tables outcomes
   pub edit : Edit
   pub read : IsEdit (edits_in outcomes) edit
   pub edited : IsEditedBy cmp first (manifest_of first) (given_tables outcomes) (edit_bytes edit) v
-  pub installs : IsGroupedInstallation g (asked_of name cmp first opened (manifest_of first)
-      (groups_of outcomes) (edit_bytes edit)) old new result
+  pub run : IsInstallRun g (calls_before_rename (manifest_of first) (groups_of outcomes)
+      (manifest_bytes name cmp first (edit_bytes edit))) (current_calls (manifest_of first)) opened
+      old new result
+  pub survives : (order : Order) (loaded : List (ℕ × List ℕ)) → order_name order ≡ name →
+      SurvivesCrash cmp order (version_with first loaded)
+      (next_with cmp v (given_tables outcomes) loaded) (change_of g old new) result
+  pub before : (order : Order) (loaded : List (ℕ × List ℕ)) → order_name order ≡ name →
+      IfErr result (λ e. e ≡ fault Changed → SurvivesCrash cmp order (version_with first loaded)
+      (version_with first loaded) (change_of g old new) result)
   pub lawful : (files : Files) (order : Order) (loaded : List (ℕ × List ℕ)) →
       Tells (g.tells old) files → ReadsAs cmp order first loaded files →
       IsLawfulAfter cmp first loaded comparison outcomes v
-  pub step : IfOk result (λ step. step_in step ≡ record {
-    outputs = table_sizes (given_tables outcomes);
-    deleted = edit.deleted;
-    manifest = manifest_of first;
-    edit = edit_bytes edit;
-  })
-
--- why nothing was installed of a folder that tells files: the device failed, or the last version
--- was refused
-abbrev pub IsWhyNone : {F : Type 0} → Ghosts F → KeyOrder → F → F → TakenOutcomes →
-    Result CompactionStep Fault → Type 0
-IsWhyNone g cmp old new t result = (files : Files) → Tells (g.tells old) files → IfErr result
-    (λ e. UnlessMemory e (IsStopped (g.failed old) (g.failed new) e
-    ⊎ IsLastTested cmp files (version_in t) t.comparison (Err e)))
+  pub step : IfOk result
+      (λ step. step_in step ≡ step_by first (table_sizes (given_tables outcomes)) edit)
 
 -- If outcomes were taken in from the first state of a folder on: there was none; or nothing was
--- installed; or they were installed.
+-- installed, since the device failed, or the last version was refused; or they were installed.
 abbrev pub IsTakenInstalled : {F : Type 0} → Ghosts F → List ℕ → KeyOrder → F → F → F →
     TakenOutcomes → Result CompactionStep Fault → Type 0
 IsTakenInstalled g name cmp start old new t result =
     AreTaken g cmp t.opened.now.version t.comparison start old (version_in t) t.written →
-    IsNoneTaken g t old new result
+    ((t.written.edits.items ≡ []) × OnlyReads g old new × IsErrAnd result (λ e. e ≡ fault Apply))
     ⊎ ((IsTakingStopped g cmp t.opened.now.version start new result
-    × IsWhyNone g cmp old new t result)
+    × ((files : Files) → Tells (g.tells old) files → IfErr result (λ e. UnlessMemory e
+    (IsStopped (g.failed old) (g.failed new) e
+    ⊎ IsLastTested cmp files (version_in t) t.comparison (Err e)))))
     ⊎ AreInstalledTogether g name cmp t.comparison t.opened.now.version (version_in t)
     t.opened.now.manifest start new result)

@@ -1,8 +1,7 @@
 -- Outcomes that are taken in, one after the other, to be installed by one manifest.
-use Rattle.std.specs.Prelude.{◌≡◌, ℕ, nat_lt, Bool, true, false, List, [], ◌∷◌, ◌++◌, Result, Ok}
-use Rattle.std.specs.Prelude.{Err}
+use Rattle.std.specs.Prelude.{◌≡◌, ℕ, nat_lt, Bool, true, List, [], ◌∷◌, ◌++◌, Result, Ok}
 use Rattle.std.specs.List.{AllByRecursion, list_all}
-use Rattle.edit.specs.Answers.{IsThen, fault}
+use Rattle.edit.specs.Answers.{IsThen, ◌>>=◌}
 use Rattle.edit.specs.fault.Fault.{Fault}
 use Rattle.edit.specs.fault.FaultName.TheVariants.{Apply}
 use Rattle.edit.specs.Comparator.{KeyOrder}
@@ -14,6 +13,7 @@ use Rattle.pick.specs.declared.picked_inputs.InputFile.{InputFile}
 use Rattle.keep.specs.Gets.{get_of}
 use Rattle.keep.specs.Readable.{is_read, readable_of}
 use Rattle.keep.specs.Tables.{NumberedContents}
+use Rattle.keep.specs.TestResult.{test_result}
 use Rattle.checks.specs.LawfulTables.{IsLawfulTables}
 use Rattle.store.specs.FolderRequest.{manifest_of}
 use Rattle.store.specs.Outcome.{OutcomeView}
@@ -34,16 +34,12 @@ abbrev pub has_opened_inputs : State → Given → Bool
 has_opened_inputs first given =
     list_all (λ (i : InputFile). nat_lt i.meta.number (manifest_of first)) given.0.picked.files
 
--- the outcome if that is so, else Apply
-abbrev pub given_if : Bool → Given → Result Given Fault
-given_if true given = Ok given
-given_if false given = Err (fault Apply)
-
--- The outcome that a folder holds, for the version that those before it leave. The first version is
--- the one that was opened.
+-- The outcome that a folder holds, for the version that those before it leave, or Apply if an input
+-- of it isn't a file of the first version, which was opened.
 abbrev pub IsGivenNext : KeyOrder → ToldFiles → State → State → Result Given Fault → Type 0
 IsGivenNext cmp tells first v = IsThen (IsGiven cmp tells v)
-    (λ given answer. answer ≡ given_if (has_opened_inputs first given) given)
+    (λ given answer. answer
+    ≡ (test_result (has_opened_inputs first given) Apply >>= λ _. Ok given))
 
 -- the answer for the outcome that a folder holds, as if those before it were installed
 abbrev pub IsTakenFrom : KeyOrder → Files → Files → State → State → Comparison →

@@ -5,6 +5,7 @@ ghost use Rattle.std.specs.List.Sorted.{IsStrictlyIncreasing};
 ghost use Rattle.edit.specs.Answers.{fault};
 ghost use Rattle.edit.specs.fault.FaultName.TheVariants.{Memory};
 ghost use Rattle.merge.specs.MergedLists.{merged};
+ghost use Rattle.pick.specs.PickedInputs.{picked_in};
 ghost use Rattle.keep.specs.Marks.{LargestRise};
 ghost use Rattle.adoption.specs.KeptEntries.{HoldsKept};
 ghost use Rattle.adoption.specs.Beginnings.{begins_with};
@@ -30,8 +31,9 @@ pub(crate) fn holds_kept<'t, C: Comparator + 't>(
     requires listed { IsStrictlyIncreasing listed.now }
     requires grandparents { LargestRise C.cmp picked.now.grandparents.items }
     ensures exact { IfOk result (λ b. IsTrue b
-        ↔ HoldsKept C.cmp (record { listed = listed.now; floor = floor }) picked.now.deeper.items
-        (map (λ t. t.entries) inputs.now) (map (λ t. t.entries) outputs.now)) }
+        ↔ HoldsKept C.cmp (record { listed = listed.now; floor = floor })
+        (picked_in picked.now).deeper (map (λ t. t.entries) inputs.now)
+        (map (λ t. t.entries) outputs.now)) }
     ensures memory { IfErr result (λ e. e ≡ fault Memory) }
 {
     distinct_law::<C>();

@@ -85,5 +85,5 @@ parts_stay cmp total exact short_keys reads_back passes n v loaded tables level 
     apart =
         still_apart cmp total v tables lawful level p q one other share step.edited.edited.next
         (λ f at. All-contains (IsOldOrOutput cmp v p) step.edited.edited.next.files f step.edited.within at)
-        step.edited.edited.tables_next (sound_lawful cmp step.edited.edited.next (next_version_tables cmp step.edited.edited.next answer.tables loaded) step.edited.edited.tables_next step.edited.edited.lawful)
+        step.edited.edited.answers.tables_next (sound_lawful cmp step.edited.edited.next (next_version_tables cmp step.edited.edited.next answer.tables loaded) step.edited.edited.answers.tables_next step.edited.edited.answers.lawful)
         (λ f at none. subst (λ (w : State). Contains w.files f) same (stays_in step f at none))

@@ -8,8 +8,8 @@ use Rattle.edit.proofs.Refusals.{unless_from}
 use Rattle.edit.specs.Answers.{UnlessMemory, fault}
 use Rattle.edit.specs.Version.{State}
 use Rattle.edit.specs.fault.Fault.{Fault}
-use Rattle.edit.specs.fault.FaultName.TheVariants.{Device, Memory, Numbers}
-use Rattle.folder.specs.Calls.{Files, Step, Tells}
+use Rattle.edit.specs.fault.FaultName.TheVariants.{Device, Numbers}
+use Rattle.folder.specs.Calls.{Files, Step, Tells, ToldFiles as Told}
 use Rattle.folder.specs.Folder.{TellsSame}
 use Rattle.folder.specs.Names.{current_text}
 use Rattle.folder.specs.OpenAnswer.{IsStopped}
@@ -27,30 +27,21 @@ use Rattle.compact.specs.declared.settings.Settings.{Settings}
 use Rattle.checks.proofs.LawfulLemmas.{sound_checked}
 use Rattle.checks.specs.LawfulTables.{IsLawfulTables}
 use Rattle.store.proofs.InstallPart.{still}
+use Rattle.store.specs.Compaction.{AnswersAs}
 use Rattle.store.specs.Descent.{IsNextLevel}
 use Rattle.store.specs.FolderRequest.{last_of, manifest_of}
 use Rattle.store.specs.OrderView.{order_view}
 use Rattle.store.specs.declared.compaction_step.CompactionStep.{CompactionStep}
 use Rattle.store.specs.declared.synced_version.SyncedVersion.{SyncedVersion}
-use Rattle.levels.specs.DescentLeft.{AnswersAs, CompactionLink, FolderVersion, IsDescended, IsLink, IsNextLevelRefused, folder_version, last_left, left_by}
-use Rattle.levels.specs.LevelLeft.{IsLevelInstalled, IsLevelLeft, IsWholeStopped}
+use Rattle.levels.specs.DescentLeft.{CompactionLink, FolderVersion, IsDescended, IsLink, IsNextLevelRefused, folder_version, last_left, left_by}
+use Rattle.levels.specs.LevelLeft.{IsLevelInstalled, IsWholeStopped}
 use Rattle.levels.specs.LevelMade.{IsRefusedSo, Way, way_by}
-use Rattle.levels.specs.LevelTaken.{IsLevelTaken}
+use Rattle.levels.specs.LevelTaken.{IsLevelLeft, IsLevelTaken}
 use Rattle.levels.specs.declared.descent_end.DescentEnd.{DescentEnd}
 use Rattle.levels.specs.declared.descent_end.DescentEnd.TheVariants.{Stopped}
 use Rattle.levels.specs.declared.selection.Selection.{Selection}
-
-abbrev Told : Type 1
-Told = List ℕ → Option (List ℕ) → Type 0
-
-abbrev refusal : {Y : Type 0} → Fault → Result Y Fault
-refusal e = Err e
-
-same_refusal : {Y : Type 0} (e d : Fault) → refusal {Y = Y} e ≡ refusal d → e ≡ d
-same_refusal e d h = cc
-
-ok_refused : {Y : Type 0} (y : Y) (e : Fault) → Ok y ≡ refusal e → ⊥
-ok_refused y e h = cc
+use Rattle.store.proofs.Flow.{no_refusal as ok_refused, same_refusal}
+use Rattle.store.proofs.Descending.{by_memory}
 
 -- what a folder tells is what it tells
 pub same_tells : (tells : Told) → TellsSame tells tells
@@ -59,10 +50,6 @@ same_tells tells name bytes = (λ h. h, λ h. h)
 on_ok : {P : Type 0} (r : Result DescentEnd Fault) → P → OnOk r P
 on_ok (Ok x) p = p
 on_ok (Err e) p = tt
-
--- memory ran out, whatever else would be a reason
-pub by_memory : (e : Fault) (P : Fault → Type 0) → e ≡ fault Memory → UnlessMemory e (P e)
-by_memory e P is = subst (λ (x : Fault). UnlessMemory x (P x)) (sym is) tt
 
 one_list : (cmp : List ℕ → List ℕ → Ordering) (v : State) (loaded : List (ℕ × List ℕ)) (a b : List NumberedContents) → IsLawfulTables cmp v loaded (Ok a) → IsLawfulTables cmp v loaded (Ok b) → a ≡ b
 one_list cmp v loaded a b h k = ok_is a b (sym (sound_checked cmp v loaded a h) ∙ sound_checked cmp v loaded b k)
@@ -94,7 +81,7 @@ module _ (selection : Selection) (order : Order) (s : Settings) (bottom : ℕ) (
   abbrev WhyBy : ℕ → Fault → Type 0
   WhyBy now e = IsStopped failed now e ⊎ IsNextLevelRefused way first e
 
-  own_answers : AnswersAs way v tables first
+  own_answers : AnswersAs cmp s v tables (version_with v loaded)
   own_answers = record { tables_next = tables; lawful = lawful; gets = λ user at read. refl }
 
   -- no further one was begun
@@ -107,7 +94,7 @@ module _ (selection : Selection) (order : Order) (s : Settings) (bottom : ℕ) (
     none = on_ok r refl;
     files_now = files;
     holds = still old new same files held;
-    read = inl reads.reads;
+    read = reads.reads;
     reads_last = on_ok r reads;
     answers = own_answers;
     refused = refused;
@@ -126,7 +113,7 @@ module _ (selection : Selection) (order : Order) (s : Settings) (bottom : ℕ) (
           none = tt;
           files_now = found.0;
           holds = found.1;
-          read = elim found.2 [ inl a ↦ inl a | inr b ↦ inl b ];
+          read = elim found.2 [ inl a ↦ a | inr b ↦ b ];
           reads_last = tt;
           answers = own_answers;
           refused = refused;
@@ -140,15 +127,15 @@ module _ (selection : Selection) (order : Order) (s : Settings) (bottom : ℕ) (
       next_held = next_version_tables cmp i.compacted.edited.next i.compacted.outputs loaded
 
       abbrev link : CompactionLink
-      link = record { level = level; step = i.step; version = next; tables = next_held }
+      link = record { level = level; step = i.step; left = version_with next next_held }
 
       is_link : IsLink way (version_with v loaded) link
-      is_link = record { next_level = next_level; compacted = i.compacted; version_is = refl; tables_are = refl }
+      is_link = record { next_level = next_level; compacted = i.compacted; left_is = refl }
 
       -- a compaction that was begun
       one_begun : (now : ℕ) (e : Fault) → UnlessMemory e (WhyBy now e) → LeftBy after new now (Err e)
       one_begun now e refused =
-          let found = i.survives.read files held reads.reads in
+          let found = i.installed.survives.read files held reads.reads in
           record {
             links = [];
             begun = link ∷ [];
@@ -157,7 +144,7 @@ module _ (selection : Selection) (order : Order) (s : Settings) (bottom : ℕ) (
             none = tt;
             files_now = found.0;
             holds = found.1;
-            read = elim found.2 [ inl a ↦ inl a | inr b ↦ inr (inl b) ];
+            read = found.2;
             reads_last = tt;
             answers = own_answers;
             refused = refused;
@@ -176,20 +163,20 @@ module _ (selection : Selection) (order : Order) (s : Settings) (bottom : ℕ) (
     abbrev ts : List (ℕ × List ℕ)
     ts = next_version_tables cmp i.compacted.edited.next i.compacted.outputs loaded
 
-    one_gets : (user : List ℕ) (at : ℕ) → is_read (readable_of s.snapshots (last_of v)) at ≡ true → get_of w i.compacted.edited.tables_next user at ≡ get_of v tables user at
+    one_gets : (user : List ℕ) (at : ℕ) → is_read (readable_of s.snapshots (last_of v)) at ≡ true → get_of w i.compacted.edited.answers.tables_next user at ≡ get_of v tables user at
     one_gets user at read =
-        subst (λ (xs : List NumberedContents). get_of w i.compacted.edited.tables_next user at ≡ get_of v xs user at) (one_list cmp v loaded i.compacted.tables tables i.compacted.lawful lawful)
-        (i.compacted.edited.gets user at read)
+        subst (λ (xs : List NumberedContents). get_of w i.compacted.edited.answers.tables_next user at ≡ get_of v xs user at) (one_list cmp v loaded i.compacted.tables tables i.compacted.lawful lawful)
+        (i.compacted.edited.answers.gets user at read)
 
     -- files that the folder tells after both
     pub found_next : (now : Files) × Tells new now × ReadsBy (order_cmp order) order i.compacted.edited.next (manifest_of v) (next_version_tables (order_cmp order) i.compacted.edited.next i.compacted.outputs loaded) now
     found_next =
-        let found = i.survives.read files held reads.reads in
-        stays.read found.0 found.1 (record { reads = found.3; named = (found.1 (codes "CURRENT") (Some (current_text (manifest_of v)))).0 i.named })
+        let found = i.installed.survives.read files held reads.reads in
+        stays.read found.0 found.1 (record { reads = found.3; named = (found.1 (codes "CURRENT") (Some (current_text (manifest_of v)))).0 i.installed.named })
 
     -- and others follow
     pub one_more : (last : List Step) (last_tells : Told) (mid_failed now : ℕ) (r : Result DescentEnd Fault) → mid_failed ≡ failed
-        → IsDescended (way_by selection order s bottom) (folder_version i.compacted.edited.next (manifest_of v) (next_version_tables (order_cmp order) i.compacted.edited.next i.compacted.outputs loaded)) i.compacted.edited.tables_next (call_by after last new last_tells mid_failed now) r → LeftBy last last_tells now r
+        → IsDescended (way_by selection order s bottom) (folder_version i.compacted.edited.next (manifest_of v) (next_version_tables (order_cmp order) i.compacted.edited.next i.compacted.outputs loaded)) i.compacted.edited.answers.tables_next (call_by after last new last_tells mid_failed now) r → LeftBy last last_tells now r
     one_more last last_tells mid_failed now r count d = record {
       links = l ∷ d.links;
       begun = d.begun;
@@ -269,7 +256,7 @@ module _ (selection : Selection) (order : Order) (s : Settings) (bottom : ℕ) (
       let w = i.compacted.edited.next in
       let ts = next_version_tables (order_cmp order) w i.compacted.outputs loaded in
       one_more selection order s bottom v manifest loaded tables lawful before old failed files held reads level next_level mid mid_tells step i after new stays after new mid_failed now r count
-      (none_begun selection order s bottom w (manifest_of v) ts i.compacted.edited.tables_next i.compacted.edited.lawful after new mid_failed found.0 found.1 found.2 after new now r refl (same_tells new)
+      (none_begun selection order s bottom w (manifest_of v) ts i.compacted.edited.answers.tables_next i.compacted.edited.answers.lawful after new mid_failed found.0 found.1 found.2 after new now r refl (same_tells new)
       (why (λ e. IsNextLevelRefused (way_by selection order s bottom) (folder_version w (manifest_of v) ts) e) r stopped))
     where
       why : (P : Fault → Type 0) (q : Result DescentEnd Fault) → IfErr q (λ e. UnlessMemory e (IsStopped mid_failed now e)) → IfErr q (λ e. UnlessMemory e (IsStopped mid_failed now e ⊎ P e))

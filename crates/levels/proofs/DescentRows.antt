@@ -1,6 +1,6 @@
 -- Compactions of one level after the other, with a removal after each: which calls they make, of any
 -- folder.
-use Rattle.std.proofs.Common.{Bool, Err, IsErrAnd, List, None, Ok, Option, Result, Some, [], ap, false, inl, inr, is_some, refl, subst, sym, true, ℕ, ◌∙◌, ◌∷◌, ◌≡◌}
+use Rattle.std.proofs.Common.{Bool, Err, IsErrAnd, List, None, Ok, Option, Result, Some, [], ap, false, inl, inr, is_some, refl, subst, true, ℕ, ◌∙◌, ◌∷◌, ◌≡◌}
 use Rattle.std.specs.Option.{IfSome}
 use Rattle.std.specs.Prelude.{IfOk}
 use Rattle.edit.specs.Answers.{fault, ◌>>=◌}
@@ -25,29 +25,12 @@ use Rattle.levels.specs.LevelMade.{At, IsLevelMade, IsLevelMadeBy, IsMadeTold, W
 use Rattle.levels.specs.LevelTaken.{IsLevelBegun}
 use Rattle.levels.specs.declared.descent_end.DescentEnd.{DescentEnd}
 use Rattle.levels.specs.declared.descent_end.DescentEnd.TheVariants.{AtBottom, Stopped}
-
-abbrev Told : Type 1
-Told = List ℕ → Option (List ℕ) → Type 0
-
-abbrev refusal : {Y : Type 0} → Fault → Result Y Fault
-refusal e = Err e
-
-same_refusal : {Y : Type 0} (e d : Fault) → refusal {Y = Y} e ≡ refusal d → e ≡ d
-same_refusal e d h = cc
-
-ok_refused : {Y : Type 0} (y : Y) (e : Fault) → Ok y ≡ refusal e → ⊥
-ok_refused y e h = cc
+use Rattle.store.proofs.Flow.{no_refusal as ok_refused, same_refusal, refusal}
+use Rattle.levels.proofs.OpenedNext.{opened}
+use Rattle.store.proofs.CleanParts.{reopening as taken}
 
 abbrev answer : {Y : Type 0} → Y → Result Y Fault
 answer y = Ok y
-
--- what is opened after a compaction, as an answer
-abbrev pub taken : Option SyncedVersion → Result (Option SyncedVersion) Fault
-taken o = Ok o
-
--- an opening, as an answer
-abbrev opened : Order → State → ℕ → Result (Order × State × ℕ) Fault
-opened o w m = Ok (o, w, m)
 
 no_opening : (o : Order) (w : State) (m : ℕ) (e : Fault) → opened o w m ≡ Err e → ⊥
 no_opening o w m e h = cc
@@ -80,32 +63,25 @@ module _ {T U W : Type 0} (by : CleanTeller W) (v : NamedVersion) (change : Fold
   CleanedAs IsAsTold r = IsCleaned by v change told told_now IsAsTold r
 
   cut_list : (listed : W) (names : Option (List (List ℕ))) (e : Fault) → IsListRemoved by v change listed told_now IsOne names (refusal {Y = T} e) → IsListRemoved by v change listed told_now IsOther names (refusal {Y = U} e)
-  cut_list listed None e h = absurd (ok_refused h.answer e (sym h.is))
-  cut_list listed (Some names) e (inl u) = inl (record { calls = u.calls; same = u.same; untold = u.untold; answer = ap (λ (x : Fault). refusal {Y = U} x) (same_refusal {Y = T} e (fault Memory) u.answer) })
-  cut_list listed (Some names) e (inr a) =
-      inr (record { removed = a.removed; obsolete = a.obsolete; runs = record { steps = a.runs.steps; made = a.runs.made; appended = a.runs.appended; change = a.runs.change }; told_last = a.told_last; told_all = a.told_all; ended = a.ended })
+  cut_list listed None e h = absurd h.1
+  cut_list listed (Some names) e (inl u) = inl (u.0, ap (λ (x : Fault). refusal {Y = U} x) (same_refusal {Y = T} e (fault Memory) u.1))
+  cut_list listed (Some names) e (inr (last, a, ended)) =
+      inr (last, record { removed = a.removed; obsolete = a.obsolete; run = record { runs = record { steps = a.run.runs.steps; made = a.run.runs.made; appended = a.run.runs.appended; change = a.run.runs.change }; told_all = a.run.told_all } }, ended)
 
   -- refused
   pub cleaned_cut : (e : Fault) → CleanedAs IsOne (Err e) → CleanedAs IsOther (Err e)
   cleaned_cut e h = record { names = h.names; listed = h.listed; lists = h.lists; removal = cut_list h.listed h.names e h.removal }
 
   module _ (x : T) (y : U) (turns : (goes : Bool) → IsOne goes x → IsOther goes y) where
-    same_ok : (a b : T) → answer a ≡ answer b → a ≡ b
-    same_ok a b h = cc
-
     done_list : (listed : W) (names : Option (List (List ℕ))) → IsListRemoved by v change listed told_now IsOne names (Ok x) → IsListRemoved by v change listed told_now IsOther names (Ok y)
-    done_list listed None h =
-        record { calls = h.calls; same = h.same; untold = h.untold; answer = y; stops = turns false (subst (IsOne false) (sym (same_ok x h.answer h.is)) h.stops); is = refl }
-    done_list listed (Some names) (inl u) = absurd (ok_refused x (fault Memory) u.answer)
-    done_list listed (Some names) (inr a) =
-        inr (record {
-          removed = a.removed;
-          obsolete = a.obsolete;
-          runs = record { steps = a.runs.steps; made = a.runs.made; appended = a.runs.appended; change = a.runs.change };
-          told_last = a.told_last;
-          told_all = a.told_all;
-          ended = (a.ended.0, a.ended.1, turns a.ended.0 a.ended.2);
-        })
+    done_list listed None h = (h.0, turns false h.1)
+    done_list listed (Some names) (inl u) = absurd (ok_refused x (fault Memory) u.1)
+    done_list listed (Some names) (inr (last, a, (goes, ends, is))) =
+        inr (
+          last,
+          record { removed = a.removed; obsolete = a.obsolete; run = record { runs = record { steps = a.run.runs.steps; made = a.run.runs.made; appended = a.run.runs.appended; change = a.run.runs.change }; told_all = a.run.told_all } },
+          (goes, ends, turns goes is),
+        )
 
     -- made
     pub cleaned_done : CleanedAs IsOne (Ok x) → CleanedAs IsOther (Ok y)
@@ -143,14 +119,14 @@ module _ {F W : Type 0} (g : Ghosts F) (by : CleanTeller W) (way : Way) (v : Sta
 
   -- no further one was begun
   pub no_more : (new : F) (told_now : W) (r : Result DescentEnd Fault) → g.calls new ≡ g.calls old → TellsSame (g.tells old) (g.tells new) → told_now ≡ told → IfOk r (λ e. (e ≡ AtBottom) × IsNextLevel v way.bottom None) → IsDescentRun g by way v at (at_by new told_now) r
-  no_more new told_now r calls same untold end = ([], inl (record { calls = calls; same = same; untold = untold; ended = end }))
+  no_more new told_now r calls same untold end = ([], inl (record { calls = calls; same = same; untold = untold }, end))
 
   module _ (level : ℕ) (next_level : IsNextLevel v way.bottom (Some level)) (mid : F) (told_mid : W) where
     abbrev Begun : Result (Option SyncedVersion) Fault → Type 0
     Begun q = IsLevelBegun g by.installs way v level at (at_by mid told_mid) q
 
     last_made : (r : Result DescentEnd Fault) → IsLevelMade g by.installs way v level at (at_by mid told_mid) IsStopTold r → IsDescentRun g by way v at (at_by mid told_mid) r
-    last_made r made = ([], inr (inl (record { level = level; next_level = next_level; level_made = made })))
+    last_made r made = ([], inr (inl (level, next_level, made)))
 
     -- the last one ended in a refusal
     pub last_refused : (e : Fault) → Begun (Err e) → IsDescentRun g by way v at (at_by mid told_mid) (Err e)
@@ -218,7 +194,7 @@ module _ {F W : Type 0} (g : Ghosts F) (by : CleanTeller W) (way : Way) (v : Sta
       own = named_version way.order next.version (manifest_of v)
 
       last_cleaned : (r : Result DescentEnd Fault) → IsLinkCleaned g by way v link IsStopTold r → IsDescentRun g by way v at (at_by after told_after) r
-      last_cleaned r h = ([], inr (inr (record { link = link; is_end = refl; installed = is_link; cleaned = h })))
+      last_cleaned r h = ([], inr (inr (link, refl, is_link, h)))
 
       pub removal_refused : (e : Fault) → RemovalBy (Err e) → IsDescentRun g by way v at (at_by after told_after) (Err e)
       removal_refused e h = last_cleaned (Err e) (cleaned_cut by own (change_of g mid after) told_mid told_after IsGoTold IsStopTold e (as_named (Err e) h))

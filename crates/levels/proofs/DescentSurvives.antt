@@ -32,11 +32,9 @@ use Rattle.levels.proofs.StepSurvives.{either, kept}
 use Rattle.levels.proofs.WholeWork.{done_of, done_runs}
 use Rattle.std.specs.List.{All}
 use Rattle.std.proofs.lemmas.List.Elements.{All-cons, All-nil}
+use Rattle.levels.proofs.OpenedNext.{opened}
 
 -- ---- one edit makes one version
-
-abbrev opened : Order → State → ℕ → Result (Order × State × ℕ) Fault
-opened o w m = Ok (o, w, m)
 
 never : (o : Order) (w : State) (m : ℕ) (e : Fault) → opened o w m ≡ Err e → ⊥
 never o w m e h = cc h
@@ -90,9 +88,9 @@ module _ {F W : Type 0} (g : Ghosts F) (by : CleanTeller W) (work : WorkSurvives
   cleaned {T = T} v start old new told told_now IsAsTold r h stands = of h.names h.removal
     where
       of : (names : Option (List (List ℕ))) → IsListRemoved by v.named (change_of g old new) h.listed told_now IsAsTold names r → Cleans v start old new
-      of None none = nothing_cleaned v start old new none.calls stands
-      of (Some names) (inl none) = nothing_cleaned v start old new none.calls stands
-      of (Some names) (inr some) = names_cleaned v start old new some.removed (all_obsolete (order_cmp v.named.order) v.named.version v.named.manifest names some.removed some.obsolete) r some.runs stands
+      of None none = nothing_cleaned v start old new none.0.calls stands
+      of (Some names) (inl none) = nothing_cleaned v start old new none.0.calls stands
+      of (Some names) (inr (last, some, ended)) = names_cleaned v start old new some.removed (all_obsolete (order_cmp v.named.order) v.named.version v.named.manifest names some.removed some.obsolete) r some.run.runs stands
 
   -- ---- a row
 
@@ -124,25 +122,25 @@ module _ {F W : Type 0} (g : Ghosts F) (by : CleanTeller W) (work : WorkSurvives
         → StandsHeld v start (g.calls at.folder) → AreSurvived g v start at end links
     survived v at end result [] is (inl none) stands = (
       v,
-      either v v (subst (λ (c : List Step). LeavesOnly start (g.calls at.folder) c (ReadsHeld v)) (sym none.calls) (kept g work v start at.folder stands)),
-      inl none.untold,
+      either v v (subst (λ (c : List Step). LeavesOnly start (g.calls at.folder) c (ReadsHeld v)) (sym none.0.calls) (kept g work v start at.folder stands)),
+      inl none.0.untold,
     )
-    survived v at end result [] is (inr (inl last)) stands =
-        let law = levels selection last.level s v at.folder end.folder last.level_made.made start is last.level_made.run stands in
-        (law.0, law.1, told last.level_made.made last.level_made.is_told law.2)
+    survived v at end result [] is (inr (inl (level, next_level, last))) stands =
+        let law = levels selection level s v at.folder end.folder last.made start is last.run stands in
+        (law.0, law.1, told last.made last.is_told law.2)
       where
         told : {P : Type 0} (made : Result CompactionStep Fault) → IsMadeTold by.installs at.told end.told IsStopTold made result → OnOk made P → (end.told ≡ at.told) ⊎ P
         told (Ok step) h p = inr p
         told (Err e) h p = inl h.0
-    survived v at end result [] is (inr (inr last)) stands =
-        let x = linked v at last.link is last.installed stands in
-        let n = held_next v at last.link x in
-        let c = cleaned n start last.link.installed.folder last.link.after.folder last.link.installed.told last.link.after.told IsStopTold result last.cleaned x.stands in
-        let all : LeavesEither v n start (g.calls at.folder) (g.calls last.link.after.folder) =
-        leaves_then start (g.calls at.folder) (g.calls last.link.installed.folder) (g.calls last.link.after.folder) (λ files. ReadsHeld v files ⊎ ReadsHeld n files) (ReadsHeld n) (λ files. ReadsHeld v files ⊎ ReadsHeld n files) (λ files h. h) (λ files h. inr h) x.leaves c.stays in (
+    survived v at end result [] is (inr (inr (link, is_end, one, two))) stands =
+        let x = linked v at link is one stands in
+        let n = held_next v at link x in
+        let c = cleaned n start link.installed.folder link.after.folder link.installed.told link.after.told IsStopTold result two x.stands in
+        let all : LeavesEither v n start (g.calls at.folder) (g.calls link.after.folder) =
+        leaves_then start (g.calls at.folder) (g.calls link.installed.folder) (g.calls link.after.folder) (λ files. ReadsHeld v files ⊎ ReadsHeld n files) (ReadsHeld n) (λ files. ReadsHeld v files ⊎ ReadsHeld n files) (λ files h. h) (λ files h. inr h) x.leaves c.stays in (
           n,
-          subst (λ (e : At F W). LeavesEither v n start (g.calls at.folder) (g.calls e.folder)) last.is_end all,
-          inr (subst (λ (e : At F W). StandsHeld n start (g.calls e.folder)) last.is_end c.stands),
+          subst (λ (e : At F W). LeavesEither v n start (g.calls at.folder) (g.calls e.folder)) is_end all,
+          inr (subst (λ (e : At F W). StandsHeld n start (g.calls e.folder)) is_end c.stands),
         )
     survived v at end result (l ∷ links) is (one, two, rest) stands =
         let x = linked v at l is one stands in

@@ -1,5 +1,5 @@
 -- What the end of the compaction of all parts tells.
-use Rattle.std.proofs.Common.{Bool, Err, IfErr, IfOk, IsErrAnd, List, Ok, OnOk, Option, Result, Some, [], ap, codes, inl, inr, length, refl, slice_get, subst, sym, ℕ, ◌+◌, ◌<◌, ◌≤◌, ◌^◌, ◌∙◌, ◌∷◌, ◌≡◌, ◌⊎◌}
+use Rattle.std.proofs.Common.{Bool, Err, IfErr, IfOk, IsErrAnd, List, Ok, OnOk, Result, Some, [], ap, codes, inl, inr, length, refl, slice_get, subst, sym, ℕ, ◌+◌, ◌<◌, ◌≤◌, ◌^◌, ◌∙◌, ◌∷◌, ◌≡◌, ◌⊎◌}
 use Rattle.std.proofs.lemmas.List.{length-map}
 use Rattle.std.specs.Cmp.{IsTotalOrder}
 use Rattle.std.specs.Prelude.{unwrap_or}
@@ -15,7 +15,7 @@ use Rattle.edit.specs.fault.Fault.{Fault}
 use Rattle.edit.specs.fault.FaultName.TheVariants.{Device, Numbers}
 use Rattle.pick.specs.PickedInputs.{PickedInputs}
 use Rattle.folder.specs.CallSequence.{MakesCalls}
-use Rattle.folder.specs.Calls.{Call, Files, Step, Tells}
+use Rattle.folder.specs.Calls.{Call, Files, Step, Tells, ToldFiles as Told}
 use Rattle.folder.specs.Manifest.{order_name}
 use Rattle.folder.specs.Names.{current_text}
 use Rattle.folder.specs.OpenAnswer.{FolderAnswers, IsOkOnlyIfCurrent, IsStopped}
@@ -25,7 +25,7 @@ use Rattle.folder.specs.declared.order.Order.{Order}
 use Rattle.install.proofs.Moments.{made_by}
 use Rattle.install.specs.FolderChange.{change_of}
 use Rattle.install.specs.GroupedInstallation.{tables_of_groups}
-use Rattle.install.specs.Install.{IsEditedBy, SurvivesCrash, install_calls, manifest_bytes, next_version_tables, table_calls, version_with}
+use Rattle.install.specs.Install.{IsEditedBy, SurvivesCrash, install_calls, manifest_bytes, next_with, table_calls, version_with}
 use Rattle.keep.specs.Tables.{NumberedContents}
 use Rattle.keep.specs.TestResult.{test_result}
 use Rattle.compact.specs.OneThread.{Answer}
@@ -50,7 +50,8 @@ use Rattle.levels.proofs.PartsBase.{slice_in}
 use Rattle.levels.proofs.SelectedParts.{AreAmong, among, among_low, among_placed}
 use Rattle.levels.proofs.Rows.{known_edited, known_read}
 use Rattle.levels.proofs.TablesStand.{read_after, version_stays}
-use Rattle.levels.specs.LevelLeft.{IsLevelInstalled, IsLevelLeft, IsWholeStopped}
+use Rattle.levels.specs.LevelLeft.{IsLevelInstalled, IsWholeStopped}
+use Rattle.levels.specs.LevelTaken.{IsLevelLeft}
 use Rattle.levels.specs.PartsEnd.{ArePartsWritten, IsEndInstalled, IsEndUnready, IsNextRefused, IsPartsEnd, IsRefusedFor, last_after}
 use Rattle.levels.specs.WholeAnswer.{AreSelected, Choosing, IsVersionWhole, IsWholeCompacted, IsWholeStep, edits_of, part_result, parts_result, tables_of, whole_step}
 use Rattle.levels.specs.WholeRuns.{ArePartLinks, GroupedAnswer, IsWholeRun, answers_in, groups_in}
@@ -59,9 +60,6 @@ use Rattle.levels.specs.declared.selection.Selection.{Selection}
 
 abbrev refusal : Fault → Result (PickedInputs × Answer) Fault
 refusal e = Err e
-
-abbrev Told : Type 1
-Told = List ℕ → Option (List ℕ) → Type 0
 
 -- calls that were all made, under a refusal
 pub ended_calls : {T U : Type 0} (P : Fault → Type 0) (calls : List Call) (before after : List Step) (old new : Told) (x : T) (q : Result U Fault) → IsErrAnd q P → MakesCalls {E = Fault} calls before after old new (Ok x) → MakesCalls calls before after old new q
@@ -90,10 +88,7 @@ module _ {F : Type 0} (g : Ghosts F) (name : List ℕ) (cmp : List ℕ → List 
         are_parts = chosen;
         links = w.written.links;
         chain = w.written.chain;
-        written = inl (record {
-          runs = handed_calls (table_calls (groups_in w.written.links)) (g.calls old) (g.calls new) (g.tells old) (g.tells new) (Err w.e) result w.e refl w.is w.written.runs;
-          refused = no_value result (λ f. f ≡ w.e) w.is;
-        });
+        written = inl (handed_calls (table_calls (groups_in w.written.links)) (g.calls old) (g.calls new) (g.tells old) (g.tells new) (Err w.e) result w.e refl w.is w.written.runs, no_value result (λ f. f ≡ w.e) w.is);
       })
   end_runs AreChosen chosen (inr (inl u)) =
       inr (record {
@@ -101,10 +96,10 @@ module _ {F : Type 0} (g : Ghosts F) (name : List ℕ) (cmp : List ℕ → List 
         are_parts = chosen;
         links = u.written.links;
         chain = u.written.chain;
-        written = inl (record {
-          runs = ended_calls (λ e. UnlessMemory e (IsEditRefused u.w.edits.items e)) (table_calls (groups_in u.written.links)) (g.calls old) (g.calls new) (g.tells old) (g.tells new) u.w result u.why u.written.runs;
-          refused = no_value result (λ e. UnlessMemory e (IsEditRefused u.w.edits.items e)) u.why;
-        });
+        written = inl (
+          ended_calls (λ e. UnlessMemory e (IsEditRefused u.w.edits.items e)) (table_calls (groups_in u.written.links)) (g.calls old) (g.calls new) (g.tells old) (g.tells new) u.w result u.why u.written.runs,
+          no_value result (λ e. UnlessMemory e (IsEditRefused u.w.edits.items e)) u.why,
+        );
       })
   end_runs AreChosen chosen (inr (inr i)) =
       inr (record {
@@ -121,9 +116,9 @@ module _ {F : Type 0} (g : Ghosts F) (name : List ℕ) (cmp : List ℕ → List 
             at = i.at;
             written = all_made i.w tt i.written.runs;
             runs = i.runs;
-            changed = i.installs.left;
+            changed = i.installs.run.left;
             step = i.step;
-            refused = stopped_as (g.failed old) (g.failed new) result i.installs.refused;
+            refused = stopped_as (g.failed old) (g.failed new) result i.installs.run.refused;
           },
         );
       })
@@ -131,7 +126,7 @@ module _ {F : Type 0} (g : Ghosts F) (name : List ℕ) (cmp : List ℕ → List 
   pub end_other : IsPartsEnd g name cmp short_keys v opened parts s old new result → IsOkOnlyIfCurrent (g.tells old) opened result
   end_other (inl w) files told other = no_value result (λ f. f ≡ w.e) w.is
   end_other (inr (inl u)) files told other = no_value result (λ e. UnlessMemory e (IsEditRefused u.w.edits.items e)) u.why
-  end_other (inr (inr i)) files told other = no_value result _ (i.installs.other_current files told other)
+  end_other (inr (inr i)) files told other = no_value result _ (i.installs.run.other_current files told other)
 
 -- ---- what is left, and what is answered
 
@@ -202,7 +197,7 @@ module _ (cmp : List ℕ → List ℕ → Ordering) (total : IsTotalOrder cmp) (
       let edited = known_edited cmp total exact short_keys reads_back passes v loaded tables s level five log previous (answers_in all) (last_after (manifest_of v) (answers_in all)) row.rest row.known (λ e. some_answer l links e) (sound_lawful cmp v loaded tables sound) row.free row.some (edit_bytes i.edit) i.edit read i.again in
       let count : length (answers_in all) ≡ length parts = same_length all ∙ ap length (sym those) ∙ i.written.whole.0 in
       let promised = subst (λ (ls : List GroupedAnswer). IsEditedBy cmp v (manifest_of v) (tables_of_groups (groups_in ls)) (edit_bytes i.edit) edited.next
-      → SurvivesCrash cmp order (version_with v loaded) (version_with edited.next (next_version_tables cmp edited.next (tables_of_groups (groups_in ls)) loaded)) (change_of g old new) result) those
+      → SurvivesCrash cmp order (version_with v loaded) (next_with cmp edited.next (tables_of_groups (groups_in ls)) loaded) (change_of g old new) result) those
       (i.installs.survives order edited.next loaded is) in
       record {
         step = whole_step v (answers_in all) i.edit;
@@ -213,11 +208,12 @@ module _ (cmp : List ℕ → List ℕ → Ordering) (total : IsTotalOrder cmp) (
           answered = inr (parts, answers_in all, i.edit, chosen, all_answered cmp short_keys v loaded s (manifest_of v) parts (answers_in all) count row.answered, read, refl, refl);
           edited = edited;
         };
-        survives = subst (λ (ts : List (ℕ × List ℕ)). IsEditedBy cmp v (manifest_of v) ts (edit_bytes i.edit) edited.next
-            → SurvivesCrash cmp order (version_with v loaded) (version_with edited.next (next_version_tables cmp edited.next ts loaded)) (change_of g old new) result) row.joined promised edited.edited;
-        named = named_on (groups_in i.written.links) (manifest_bytes name cmp v (edit_bytes i.edit)) result i.installs.runs;
-        is_step = subst (λ (ls : List GroupedAnswer). IfOk result (λ (step : CompactionStep). step_in step ≡ whole_step v (answers_in ls) i.edit)) those i.step;
-        refused = device_named (g.failed old) (g.failed new) result (i.installs.same_current files told current);
+        installed = record {
+          survives = subst (λ (ts : List (ℕ × List ℕ)). IsEditedBy cmp v (manifest_of v) ts (edit_bytes i.edit) edited.next → SurvivesCrash cmp order (version_with v loaded) (next_with cmp edited.next ts loaded) (change_of g old new) result) row.joined promised edited.edited;
+          named = named_on (groups_in i.written.links) (manifest_bytes name cmp v (edit_bytes i.edit)) result i.installs.run.runs;
+          is_step = subst (λ (ls : List GroupedAnswer). IfOk result (λ (step : CompactionStep). step_in step ≡ whole_step v (answers_in ls) i.edit)) those i.step;
+          refused = device_named (g.failed old) (g.failed new) result (i.installs.run.same_current files told current);
+        };
       }
 
   pub end_left : order_name order ≡ name → IsPartsEnd g name cmp short_keys v opened parts s old new result
@@ -315,4 +311,4 @@ module _ (cmp : List ℕ → List ℕ → Ordering) (total : IsTotalOrder cmp) (
   end_answer (inr (inr i)) =
       let l = linked i.written i.written.links refl in
       let read = subst (λ (b : List ℕ). IsEdit b i.edit) i.written.whole.1.edits i.read in
-      step_answer i.edit (answers_in i.written.links) (all_answered cmp short_keys v loaded s (manifest_of v) parts (answers_in i.written.links) (same_length i.written.links ∙ i.written.whole.0) l.answered) read result i.step (i.installs.same_current files told current)
+      step_answer i.edit (answers_in i.written.links) (all_answered cmp short_keys v loaded s (manifest_of v) parts (answers_in i.written.links) (same_length i.written.links ∙ i.written.whole.0) l.answered) read result i.step (i.installs.run.same_current files told current)

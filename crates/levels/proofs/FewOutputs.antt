@@ -3,7 +3,6 @@ use Rattle.std.proofs.Common.{◌≡◌, ℕ, ◌+◌, ◌<◌, ◌^◌, Bool, t
 use Rattle.std.specs.Prelude.{◌&&◌, nat_le, nat_lt}
 use Rattle.std.specs.Option.{ok_or}
 use Rattle.std.specs.declared.cmp.Ordering.{Ordering}
-use Rattle.std.proofs.lemmas.Bool.Decides.{nat_tests}
 use Rattle.std.proofs.lemmas.List.{length-map}
 use Rattle.edit.proofs.Binds.{bind_ok, ok_is}
 use Rattle.edit.specs.Answers.{fault, ◌>>=◌}
@@ -23,14 +22,12 @@ use Rattle.compact.specs.Request.{RequestView, below_request, request_test}
 use Rattle.compact.specs.declared.settings.Settings.{Settings}
 use Rattle.store.specs.FolderRequest.{compaction_from, first_output, manifest_of, numbered_request, request_from}
 use Rattle.store.proofs.ClosedJoint.{found_is}
+use Rattle.levels.proofs.PartEdits.{below_told as below}
 
 -- what an answer of one thread tells of its request
 pub record Told (cmp : List ℕ → List ℕ → Ordering) (r : RequestView) (answer : Answer) : Type 0 where
   pub tested : request_test cmp r ≡ Ok tt
   pub few : r.first_number + length answer.tables < 2 ^ 64
-
-below : (m n : ℕ) → nat_lt m n ≡ true → m < n
-below m n h = grind (arith, nat_tests)
 
 abbrev answer_of : RequestView → List Output → Answer
 answer_of r all = record { tables = numbered_tables all; edit = edit_bytes (edit_of r (new_files r all)) }

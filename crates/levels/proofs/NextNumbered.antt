@@ -17,8 +17,9 @@ use Rattle.reads.specs.Lawful.{IsBelowNextFile}
 use Rattle.keep.proofs.Members.{first_in, later_in}
 use Rattle.store.specs.FolderRequest.{manifest_of}
 use Rattle.levels.specs.Survival.{IsNumbered}
-use Rattle.levels.proofs.PartEdits.{IsEditOver, below_manifest}
+use Rattle.levels.proofs.PartEdits.{IsEditOver}
 use Rattle.levels.proofs.WholeWork.{after, files_are}
+use Rattle.levels.proofs.StayingInputs.{below_manifest}
 
 -- ---- what is read as an edit is within limits
 

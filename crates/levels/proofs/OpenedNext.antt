@@ -27,15 +27,14 @@ use Rattle.store.specs.FoundInputs.{IsStepLeft}
 use Rattle.store.proofs.Compactions.{picked_of}
 use Rattle.store.specs.declared.compaction_step.CompactionStep.{CompactionStep}
 use Rattle.store.specs.declared.synced_version.SyncedVersion.{SyncedVersion}
-use Rattle.levels.specs.LevelLeft.{IsLevelInstalled, IsLevelLeft}
+use Rattle.levels.specs.LevelLeft.{IsLevelInstalled}
+use Rattle.levels.specs.LevelTaken.{IsLevelLeft}
 use Rattle.levels.specs.declared.selection.Selection.{Selection}
 use Rattle.levels.specs.WholeAnswer.{PicksInputs}
-
-abbrev refusal : {Y : Type 0} → Fault → Result Y Fault
-refusal e = Err e
+use Rattle.store.proofs.Flow.{no_refusal, same_refusal, refusal}
 
 -- an opening, as an answer
-abbrev opened : Order → State → ℕ → Result (Order × State × ℕ) Fault
+abbrev pub opened : Order → State → ℕ → Result (Order × State × ℕ) Fault
 opened o w m = Ok (o, w, m)
 
 not_opened : (o : Order) (w : State) (m : ℕ) (e : Fault) → opened o w m ≡ refusal e → ⊥
@@ -79,7 +78,7 @@ module _ (selection : Selection) (order : Order) (v : LoadedVersion) (level : �
   module _ (i : IsLevelInstalled selection (order_view order) v level s change (Ok step)) where
     -- the edit of the step is that of its answers
     same_edit : step.edit.items ≡ i.step.edit
-    same_edit = ap (λ (x : StepView). x.edit) i.is_step
+    same_edit = ap (λ (x : StepView). x.edit) i.installed.is_step
 
     pub opened_next : (r : Result (Option SyncedVersion) Fault) → IfOk r (λ o. IfSome o (λ a. IsOpenedAfter order v.version step.edit.items (Ok (a.order, a.version, a.manifest))))
         → IfOk r (λ o. IfSome o (λ a. (a.order ≡ order) × (a.version ≡ i.compacted.edited.next) × (a.manifest ≡ manifest_of v.version)))
@@ -106,22 +105,13 @@ picked_left selection by v level s change r picks (inr i) =
         tables = i.compacted.tables;
         lawful = i.compacted.lawful;
         outputs = i.answer.tables;
-        answered = inl (picks, (i.picked, i.answer, picked_of by.cmp v.version level i.picked i.compacted.is_chosen, i.compacted.answered, refl, refl));
+        answered = inl (picks, i.picked, i.answer, picked_of by.cmp v.version level i.picked i.compacted.is_chosen, i.compacted.answered, refl, refl);
         edited = i.compacted.edited;
       };
-      survives = i.survives;
-      named = i.named;
-      is_step = i.step;
-      refused = i.refused;
+      installed = i.installed;
     }))
 
 -- ---- no refusal is Device
-
-same_refusal : {Y : Type 0} (e d : Fault) → refusal {Y = Y} e ≡ refusal d → e ≡ d
-same_refusal e d h = cc
-
-no_refusal : {Y : Type 0} (y : Y) (e : Fault) → Ok y ≡ refusal e → ⊥
-no_refusal y e h = cc
 
 tag_other : (b : Bool) → (if b then fault EditTag else fault EditField).name ≢ Device
 tag_other true same = cc same

@@ -4,10 +4,8 @@ use Rattle.std.specs.Prelude.{Contains, nat_le, nat_lt, unwrap_or}
 use Rattle.std.specs.List.{AllByRecursion, flat_map, list_all}
 use Rattle.std.specs.List.Sorted.{IsStrictlySortedBy}
 use Rattle.std.specs.Option.{option_or}
-use Rattle.std.specs.Cmp.{IsTotalOrder}
 use Rattle.std.specs.declared.cmp.Ordering.{Ordering}
 use Rattle.std.proofs.lemmas.Bool.Decides.{nat_tests}
-use Rattle.std.proofs.lemmas.Cmp.{nat_cmp_total, on_total, then_total}
 use Rattle.std.proofs.lemmas.List.{length-map, map-append}
 use Rattle.std.proofs.lemmas.List.Elements.{All-contains, Contains-append_cases, Contains-append_right}
 use Rattle.table.specs.EncodedEntry.{Entry}
@@ -48,7 +46,7 @@ use Rattle.keep.specs.Runs.{are_distinct}
 use Rattle.cut.specs.Outputs.{outputs}
 use Rattle.cut.specs.Stops.{stops}
 use Rattle.cut.proofs.Whole.{all_segments, some_segments}
-use Rattle.install.proofs.DeletedSets.{tied}
+use Rattle.install.proofs.DeletedSets.{tied, deleted_total}
 use Rattle.install.proofs.JoinedBytes.{edits_join}
 use Rattle.install.specs.Install.{numbers_of}
 use Rattle.install.specs.JoinedEdits.{joined_edit}
@@ -70,7 +68,9 @@ use Rattle.compact.proofs.PassedRequests.{passed_law}
 use Rattle.store.specs.FolderRequest.{compaction_from, manifest_of, request_from}
 use Rattle.store.proofs.PartFiles.{ArePlaced}
 use Rattle.levels.specs.Survival.{IsNumbered}
-use Rattle.levels.proofs.PartStep.{new_numbers, thread_at}
+use Rattle.levels.proofs.PartStep.{thread_at}
+use Rattle.levels.proofs.StayingInputs.{below_manifest}
+use Rattle.store.proofs.ClosedJoint.{new_numbers}
 
 all_both : {X : Type 0} (P : X → Type 0) (xs ys : List X) → AllByRecursion P xs → AllByRecursion P ys → AllByRecursion P (xs ++ ys)
 all_both P [] ys h k = k
@@ -129,7 +129,7 @@ module _ (table : List Entry → List ℕ) where
     | inr later ↦ later_in q qs w.entries (from_cut (number + 1) qs w later)
   ]
 
-below_told : (m n : ℕ) → nat_lt m n ≡ true → m < n
+pub below_told : (m n : ℕ) → nat_lt m n ≡ true → m < n
 below_told m n h = grind (arith, nat_tests)
 
 most_told : (m n : ℕ) → nat_le m n ≡ true → m ≤ n
@@ -266,13 +266,6 @@ new_rising level n (w ∷ ws) h = let is : w.number ≡ n = h.0 in (omega (arith
 none_sorted : IsStrictlySortedBy deleted_cmp []
 unfolding IsStrictlySortedBy
 none_sorted = tt
-
-deleted_total : IsTotalOrder deleted_cmp
-deleted_total = then_total (on_total (λ (f : DeletedFile). f.level) nat_cmp_total) (on_total (λ (f : DeletedFile). f.number) nat_cmp_total)
-
-pub below_manifest : (next : Option ℕ) (n : ℕ) → IsBelowNextFile next n → n < unwrap_or next 0
-below_manifest None n h = absurd h
-below_manifest (Some m) n h = h
 
 each_field : {X : Type 0} (field : X → Field) (xs : List X) → ((x : X) → Contains xs x → IsField (field x)) → AllByRecursion IsField (map field xs)
 each_field field [] h = tt

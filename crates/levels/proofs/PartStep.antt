@@ -1,5 +1,5 @@
 -- One part that is compacted: its outputs, its edit, and the version after it.
-use Rattle.std.proofs.Common.{◌≡◌, ℕ, ◌+◌, ◌-◌, ◌<◌, ◌≤◌, ◌^◌, Bool, true, false, not, if◌then◌else◌, List, [], ◌∷◌, ◌++◌, length, map, Some, None, Option, Result, Ok, refl, sym, ap, subst, ◌∙◌, inl, inr, arith}
+use Rattle.std.proofs.Common.{◌≡◌, ℕ, ◌+◌, ◌-◌, ◌<◌, ◌≤◌, ◌^◌, Bool, true, false, not, if◌then◌else◌, List, [], ◌∷◌, ◌++◌, length, map, Some, None, Option, Result, Ok, sym, ap, subst, ◌∙◌, inl, inr, arith}
 use Rattle.std.specs.Prelude.{◌&&◌, Contains, nat_le, nat_lt, unwrap_or}
 use Rattle.std.specs.List.{All}
 use Rattle.std.specs.List.Sorted.{IsPermutation}
@@ -42,7 +42,7 @@ use Rattle.compact.proofs.SafeInputs.{AreSafe}
 use Rattle.compact.proofs.SurvivingReads.{edit_is}
 use Rattle.store.specs.ClosedLaws.{EditedWithin}
 use Rattle.store.specs.FolderRequest.{compaction_from, first_output, last_of, manifest_of, numbered_request, request_from}
-use Rattle.store.proofs.ClosedJoint.{held, over, safe_installed}
+use Rattle.store.proofs.ClosedJoint.{held, over, safe_installed, new_numbers}
 use Rattle.levels.specs.WholeAnswer.{part_result}
 
 -- ---- which request is answered
@@ -109,10 +109,6 @@ pub numbered_within : (first : ℕ) (outputs : List Output) (n : ℕ) → AreNum
 numbered_within first [] n h m = absurd m
 numbered_within first (q ∷ outputs) n h (inl same) = let is : q.number ≡ first = h.0 in (omega (arith, same, is), omega (arith, same, is))
 numbered_within first (q ∷ outputs) n h (inr m) = let rest = numbered_within (first + 1) outputs n h.1 m in (omega (arith, rest.0), omega (arith, rest.1))
-
-pub new_numbers : (level : ℕ) (outputs : List Output) → map (λ (f : NewFile). f.meta.number) (map (new_file level) outputs) ≡ numbers_of (numbered_tables outputs)
-new_numbers level [] = refl
-new_numbers level (q ∷ outputs) = ap (λ (ns : List ℕ). q.number ∷ ns) (new_numbers level outputs)
 
 -- ---- the step
 

@@ -27,7 +27,6 @@ use Rattle.compact.specs.declared.settings.Settings.{Settings}
 use Rattle.store.specs.InputsCompaction.{IsPickedAnswer}
 use Rattle.store.specs.PickedOutcome.{IsPickedCompacted}
 use Rattle.store.proofs.InstallPart.{still}
-use Rattle.store.proofs.RunPart.{handed_calls}
 use Rattle.levels.specs.PartsEnd.{IsOutcomeWritten, IsPartWritten, IsRefusedFor, IsTakenIn}
 use Rattle.levels.specs.declared.part_writer.WrittenParts.{WrittenParts}
 use Rattle.levels.proofs.Ends.{ended_calls}
@@ -48,23 +47,6 @@ pub numbered : (last first : ℕ) → first ≡ last + 1 → last + 1 < 2 ^ 64 �
 numbered last first is small = grind (arith, nat_tests, is, small)
 
 module _ {F X : Type 0} (g : Ghosts F) (a : Answer) (bytes : AreBytes a.edit) (before after : WrittenParts) (old new : F) (q : Result X Fault) where
-  -- the tables could not be written
-  pub made_refused : {Y : Type 0} (r : Result Y Fault) (e : Fault) → r ≡ Err e → IsErrAnd q (λ f. f ≡ e) → MakesCalls (table_calls (a.tables ∷ [])) (g.calls old) (g.calls new) (g.tells old) (g.tells new) r
-      → IfErr r (λ f. UnlessMemory f (IsStopped (g.failed old) (g.failed new) f)) → IsOutcomeWritten g a before after old new q
-  made_refused {Y = Y} r e was is runs why = inr (record {
-    runs = handed_calls (table_calls (a.tables ∷ [])) (g.calls old) (g.calls new) (g.tells old) (g.tells new) r q e was is runs;
-    refused = handed q is;
-    taken = no_ok q e (IsTakenIn before after a) is;
-    bytes = bytes;
-  })
-    where
-      at : UnlessMemory e (IsStopped (g.failed old) (g.failed new) e)
-      at = subst (λ (x : Result Y Fault). IfErr x (λ f. UnlessMemory f (IsStopped (g.failed old) (g.failed new) f))) was why
-
-      handed : (p : Result X Fault) → IsErrAnd p (λ f. f ≡ e) → IfErr p (λ f. UnlessMemory f (IsStopped (g.failed old) (g.failed new) f))
-      handed (Ok x) h = absurd h
-      handed (Err f) h = subst (λ (d : Fault). UnlessMemory d (IsStopped (g.failed old) (g.failed new) d)) (sym h) at
-
   -- they were written, and memory ran out then
   pub made_untaken : {Y : Type 0} (r : Result Y Fault) (y : Y) (e : Fault) → r ≡ Ok y → e ≡ fault Memory → IsErrAnd q (λ f. f ≡ e) → MakesCalls (table_calls (a.tables ∷ [])) (g.calls old) (g.calls new) (g.tells old) (g.tells new) r → IsOutcomeWritten g a before after old new q
   made_untaken {Y = Y} r y e was memory is runs = inr (record {

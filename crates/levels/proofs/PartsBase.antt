@@ -16,7 +16,7 @@ use Rattle.pick.specs.Parts.{ArePartsBy, ArePartsFrom, IsPartsAnswer, part_input
 use Rattle.pick.specs.PickedInputs.{PickedInputs}
 use Rattle.pick.proofs.ApartChoices.{is_there, refuted}
 use Rattle.pick.proofs.Lists.{IsIn, all_in, in_back, in_front}
-use Rattle.pick.proofs.PartRanges.{all_ranges}
+use Rattle.pick.proofs.Widened.{all_ranges}
 use Rattle.keep.specs.Lawful.{IsLawful}
 use Rattle.keep.specs.Tables.{NumberedContents}
 use Rattle.reads.proofs.Levels.{at_level}
@@ -84,7 +84,7 @@ module _ (cmp : List ℕ → List ℕ → Ordering) (total : IsTotalOrder cmp) (
 abbrev done : List PickedInputs → Result (List PickedInputs) Fault
 done parts = Ok parts
 
-abbrev refused : Fault → Result (List PickedInputs) Fault
+abbrev pub refused : Fault → Result (List PickedInputs) Fault
 refused e = Err e
 
 pub no_refusal : (parts : List PickedInputs) (e : Fault) → done parts ≡ refused e → ⊥
@@ -121,7 +121,7 @@ share_no_file cmp total v tables lawful level parts h = by (part_key cmp v level
     by (Some key) are =
         subst ShareNoFile (sym are.these)
         (shared cmp total v tables lawful level key are.parts
-        (disjoint cmp total v level (all_ranges cmp total v level (both_files cmp v level) told.ranges) [] (level_files cmp v level) are.parts are.are_parts (λ f k. k)))
+        (disjoint cmp total v level (all_ranges cmp total (both_files cmp v level) told.ranges) [] (level_files cmp v level) are.parts are.are_parts (λ f k. k)))
 
 -- each part stands apart over the version
 pub stands_apart : (cmp : List ℕ → List ℕ → Ordering) (total : IsTotalOrder cmp) (v : State) (tables : List NumberedContents) → IsLawful cmp v tables → All (λ (f : NewFile). f.level ≤ 6) v.files → (level : ℕ) (parts : List PickedInputs) → IsPartsAnswer cmp v level (Ok parts)

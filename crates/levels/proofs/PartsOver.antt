@@ -15,7 +15,7 @@ use Rattle.install.proofs.Grouped.{groups_installed}
 use Rattle.pick.specs.PickedInputs.{PickedInputs}
 use Rattle.compact.specs.declared.settings.Settings.{Settings}
 use Rattle.store.specs.FolderRequest.{manifest_of}
-use Rattle.store.specs.Step.{step_in}
+use Rattle.store.specs.Step.{step_by, step_in}
 use Rattle.store.specs.declared.compaction_step.CompactionStep.{CompactionStep}
 use Rattle.store.specs.InputsCompaction.{ArePartsFound}
 use Rattle.store.proofs.NoDevice.{orderly_other}
@@ -31,11 +31,9 @@ use Rattle.store.proofs.InstallPart.{still}
 use Rattle.store.specs.Compaction.{IsUnchanged}
 use Rattle.store.specs.NamedEdits.{IsNaming}
 use Rattle.store.specs.declared.named_edits.WrittenTables.{WrittenTables}
+use Rattle.levels.proofs.PartsBase.{refused as refusal}
 
 -- ---- no refusal is Device
-
-abbrev refusal : Fault → Result (List PickedInputs) Fault
-refusal e = Err e
 
 same_refusal : (e d : Fault) → refusal e ≡ refusal d → e ≡ d
 same_refusal e d h = cc h
@@ -62,7 +60,7 @@ module _ (cmp : List ℕ → List ℕ → Ordering) (v : State) (level : ℕ) (e
 
   pub selected_other : (selection : Selection) → AreSelected selection cmp v level (Err e) → e.name ≢ Device
   selected_other Whole h = level_other h
-  selected_other (Fitting memory) h = fitting_other memory h
+  selected_other (Fitting memory) h = fitting_other memory h.0
 
 -- ---- the end
 
@@ -100,11 +98,9 @@ module _ {F : Type 0} (g : Ghosts F) (name : List ℕ) (cmp : List ℕ → List 
         edit = n.edit;
         read = subst (λ (b : List ℕ). IsEdit b n.edit) edits n.read;
         again = n.again;
-        runs = n.calls.runs;
+        runs = n.calls.run.runs;
         installs =
             groups_installed name cmp v opened (manifest_of v) (groups_in all.links) (edit_bytes n.edit) (manifest_bytes name cmp v (edit_bytes n.edit)) n.small total refl n.state n.snapshot
             old at new w r all.runs (λ lt. absurd (at_once lt)) later n.calls;
-        step =
-            subst (λ (o : List (ℕ × ℕ)). IfOk r (λ step. step_in step ≡ record { outputs = o; deleted = n.edit.deleted; manifest = manifest_of v; edit = edit_bytes n.edit }))
-            (outputs ∙ all.whole.1.outputs) n.step;
+        step = subst (λ (o : List (ℕ × ℕ)). IfOk r (λ step. step_in step ≡ step_by v o n.edit)) (outputs ∙ all.whole.1.outputs) n.step;
       }))

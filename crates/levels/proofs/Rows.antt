@@ -146,13 +146,13 @@ module _ (cmp : List ℕ → List ℕ → Ordering) (total : IsTotalOrder cmp) (
     within f at =
         All-contains (IsOldOrOutput cmp w p) next.files f (subst (λ (x : State). All (IsOldOrOutput cmp w p) x.files) next_same step.edited.within) at
 
-    next_sound : IsLawfulTables cmp next next_held (Ok step.edited.edited.tables_next)
-    next_sound = subst (λ (x : State). IsLawfulTables cmp x (next_version_tables cmp x a.tables held) (Ok step.edited.edited.tables_next)) next_same step.edited.edited.lawful
+    next_sound : IsLawfulTables cmp next next_held (Ok step.edited.edited.answers.tables_next)
+    next_sound = subst (λ (x : State). IsLawfulTables cmp x (next_version_tables cmp x a.tables held) (Ok step.edited.edited.answers.tables_next)) next_same step.edited.edited.answers.lawful
 
-    next_gets : (user : List ℕ) (at : ℕ) → is_read (readable_of s.snapshots (last_of v)) at ≡ true → get_of next step.edited.edited.tables_next user at ≡ get_of v tables user at
+    next_gets : (user : List ℕ) (at : ℕ) → is_read (readable_of s.snapshots (last_of v)) at ≡ true → get_of next step.edited.edited.answers.tables_next user at ≡ get_of v tables user at
     next_gets user at is =
-        sym (ap (λ (x : State). get_of x step.edited.edited.tables_next user at) next_same)
-        ∙ step.edited.edited.gets user at (ap (λ (n : ℕ). is_read (readable_of s.snapshots n) at) here.last_is ∙ is)
+        sym (ap (λ (x : State). get_of x step.edited.edited.answers.tables_next user at) next_same)
+        ∙ step.edited.edited.answers.gets user at (ap (λ (n : ℕ). is_read (readable_of s.snapshots n) at) here.last_is ∙ is)
         ∙ here.gets user at is
 
     next_low : All (λ (f : NewFile). f.level ≤ 6) next.files
@@ -178,7 +178,7 @@ module _ (cmp : List ℕ → List ℕ → Ordering) (total : IsTotalOrder cmp) (
     remain_next : (q : PickedInputs) → Contains rest q → Remains next next_held q
     remain_next q at =
         let theirs = here.remain q (later_in p rest q at) in
-        let apart = still_apart cmp total w here.own lawful level p q mine.stands theirs.stands (share.0 q at) next within step.edited.edited.tables_next (sound_lawful cmp next next_held step.edited.edited.tables_next next_sound) (stays_in step) in
+        let apart = still_apart cmp total w here.own lawful level p q mine.stands theirs.stands (share.0 q at) next within step.edited.edited.answers.tables_next (sound_lawful cmp next next_held step.edited.edited.answers.tables_next next_sound) (stays_in step) in
         record {
           stands = apart;
           bytes = λ i there.
@@ -190,7 +190,7 @@ module _ (cmp : List ℕ → List ℕ → Ordering) (total : IsTotalOrder cmp) (
 
     pub next_stands : Stands next next_held (next_last last a) rest
     next_stands = record {
-      own = step.edited.edited.tables_next;
+      own = step.edited.edited.answers.tables_next;
       sound = next_sound;
       gets = next_gets;
       log_is = here.log_is;
@@ -366,9 +366,7 @@ module _ (cmp : List ℕ → List ℕ → Ordering) (total : IsTotalOrder cmp) (
         some = some;
         rises = omega (arith, manifest, higher);
         small = omega (arith, manifest, small);
-        tables_next = here.own;
-        lawful = subst (λ (ts : List (ℕ × List ℕ)). IsLawfulTables cmp w ts (Ok here.own)) joined.laid here.sound;
-        gets = here.gets;
+        answers = record { tables_next = here.own; lawful = subst (λ (ts : List (ℕ × List ℕ)). IsLawfulTables cmp w ts (Ok here.own)) joined.laid here.sound; gets = here.gets };
       }
 
   -- ---- rows, from the first version on

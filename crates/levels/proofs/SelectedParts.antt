@@ -61,8 +61,7 @@ module _ (cmp : List ℕ → List ℕ → Ordering) (v : State) (level : ℕ) wh
   pub among : (selection : Selection) (parts : List PickedInputs) → AreSelected selection cmp v level (Ok parts) → AreAmong cmp v level parts
   among Whole [] h = absurd (some_there cmp v level h)
   among Whole (p ∷ parts) h = record { all = p ∷ parts; are = level_parts cmp v level (p ∷ parts) h; keeps = λ q. true; these = all_kept (p ∷ parts); some = not_none p parts }
-  among (Fitting memory) [] h = absurd h
-  among (Fitting memory) (p ∷ parts) h = fitting memory (p ∷ parts) (not_none p parts) h
+  among (Fitting memory) parts h = fitting memory parts (λ none. h.1 (ap (λ (l : List PickedInputs). Ok l) none)) h.0
 
   -- each is a part of the level
   pub in_all : (parts : List PickedInputs) (are : AreAmong cmp v level parts) (p : PickedInputs) → Contains parts p → Contains are.all p
@@ -97,23 +96,25 @@ module _ (cmp : List ℕ → List ℕ → Ordering) (v : State) (level : ℕ) wh
   taken_refused selection (Ok o) e h why = absurd h
   taken_refused selection (Err f) e h why = subst (λ (d : Fault). UnlessMemory d (AreSelected selection cmp v level (Err d))) (sym h) why
 
-  pub not_orderly : (memory : ℕ) (e : Fault) → UnlessMemory e (IsOrderlyAnswer cmp v (Err e)) → UnlessMemory e (ArePartsFitting memory cmp v level (Err e))
+  pub not_orderly : (memory : ℕ) (e : Fault) → UnlessMemory e (IsOrderlyAnswer cmp v (Err e)) → UnlessMemory e (AreSelected (Fitting memory) cmp v level (Err e))
   not_orderly memory e given =
-      unless_from e (IsOrderlyAnswer cmp v (Err e)) (ArePartsFitting memory cmp v level (Err e)) (λ h. first_refused (ArePartsFound cmp v level) (λ all answer. answer ≡ Ok (filter (fits memory) all)) e
-      (first_refused (IsOrderlyAnswer cmp v) (λ (passed : Unit {0}). IsPartsAnswer cmp v level) e h)) given
+      unless_from e (IsOrderlyAnswer cmp v (Err e)) (AreSelected (Fitting memory) cmp v level (Err e)) (λ h. (
+        first_refused (ArePartsFound cmp v level) (λ all answer. answer ≡ Ok (filter (fits memory) all)) e
+            (first_refused (IsOrderlyAnswer cmp v) (λ (passed : Unit {0}). IsPartsAnswer cmp v level) e h),
+        λ is. no_refusal [] e (sym is),
+      )) given
 
   module _ (memory : ℕ) (orderly : IsOrderlyAnswer cmp v (Ok tt)) where
     found : (answer : Result (List PickedInputs) Fault) → IsPartsAnswer cmp v level answer → ArePartsFound cmp v level answer
     found answer h = first_passed (IsOrderlyAnswer cmp v) (λ (passed : Unit {0}). IsPartsAnswer cmp v level) tt answer orderly h
 
-    pub none_found : (e : Fault) → UnlessMemory e (IsPartsAnswer cmp v level (Err e)) → UnlessMemory e (ArePartsFitting memory cmp v level (Err e))
+    pub none_found : (e : Fault) → UnlessMemory e (IsPartsAnswer cmp v level (Err e)) → UnlessMemory e (AreSelected (Fitting memory) cmp v level (Err e))
     none_found e given =
-        unless_from e (IsPartsAnswer cmp v level (Err e)) (ArePartsFitting memory cmp v level (Err e)) (λ h. first_refused (ArePartsFound cmp v level) (λ all answer. answer ≡ Ok (filter (fits memory) all)) e (found (Err e) h)) given
+        unless_from e (IsPartsAnswer cmp v level (Err e)) (AreSelected (Fitting memory) cmp v level (Err e)) (λ h. (first_refused (ArePartsFound cmp v level) (λ all answer. answer ≡ Ok (filter (fits memory) all)) e (found (Err e) h), λ is. no_refusal [] e (sym is))) given
 
     module _ (all : List PickedInputs) (are : IsPartsAnswer cmp v level (Ok all)) where
       pub fit : (kept : List PickedInputs) → kept ≡ filter (fits memory) all → ArePartsFitting memory cmp v level (Ok kept)
       fit kept is = (Ok all, (found (Ok all) are, ap (λ (l : List PickedInputs). Ok l) is))
 
       pub some_fit : (kept : List PickedInputs) → kept ≢ [] → kept ≡ filter (fits memory) all → AreSelected (Fitting memory) cmp v level (Ok kept)
-      some_fit [] some is = absurd (some refl)
-      some_fit (p ∷ kept) some is = fit (p ∷ kept) is
+      some_fit kept some is = (fit kept is, λ none. some (ok_is kept [] none))

@@ -1,5 +1,5 @@
 -- The compaction of a whole level, told from earlier calls on that only read.
-use Rattle.std.proofs.Common.{Err, IfErr, List, Ok, Option, Result, [], ap, inl, inr, map, subst, ℕ, ◌++◌, ◌∙◌, ◌∷◌, ◌≡◌}
+use Rattle.std.proofs.Common.{Err, IfErr, List, Ok, Result, [], ap, inl, inr, map, subst, ℕ, ◌++◌, ◌∙◌, ◌∷◌, ◌≡◌}
 use Rattle.std.specs.declared.cmp.Ordering.{Ordering}
 use Rattle.edit.specs.Answers.{IsThen, fault}
 use Rattle.edit.specs.Comparator.{ShortKeys}
@@ -9,7 +9,7 @@ use Rattle.edit.specs.fault.Fault.{Fault}
 use Rattle.edit.specs.fault.FaultName.TheVariants.{Changed}
 use Rattle.pick.specs.PickedInputs.{PickedInputs}
 use Rattle.folder.proofs.LoadingLemmas.{told_since}
-use Rattle.folder.specs.Calls.{Done, Files, Step, Tells}
+use Rattle.folder.specs.Calls.{Done, Files, Step, Tells, ToldFiles as Told}
 use Rattle.folder.specs.Folder.{TellsSame}
 use Rattle.folder.specs.Manifest.{order_name}
 use Rattle.folder.specs.Orders.{order_cmp, order_short_keys}
@@ -17,26 +17,24 @@ use Rattle.folder.specs.ReadsAs.{ReadsAs}
 use Rattle.folder.specs.declared.folder.Folder.{Ghosts}
 use Rattle.folder.specs.declared.order.Order.{Order}
 use Rattle.install.proofs.Changes.{change_by}
-use Rattle.install.specs.Install.{LoadedVersion, SurvivesCrash, calls_before_rename, manifest_bytes, table_calls, version_with}
+use Rattle.install.specs.Install.{SurvivesCrash, calls_before_rename, manifest_bytes, next_with, table_calls, version_with}
 use Rattle.compact.specs.OneThread.{Answer}
 use Rattle.compact.specs.declared.settings.Settings.{Settings}
 use Rattle.checks.specs.TestedTables.{IsTested}
 use Rattle.store.proofs.Flow.{first_refused}
-use Rattle.store.proofs.InstallPart.{still, survives_on}
+use Rattle.store.proofs.InstallPart.{installed_told, still, survives_on}
 use Rattle.store.proofs.RunPart.{calls_since}
 use Rattle.store.proofs.StepPart.{test_ends}
 use Rattle.store.specs.FolderRequest.{manifest_of}
 use Rattle.store.specs.OrderView.{order_by}
 use Rattle.store.specs.Step.{StepView}
 use Rattle.store.specs.declared.compaction_step.CompactionStep.{CompactionStep}
-use Rattle.levels.specs.LevelLeft.{IsLevelLeft, IsWholeLeft, next_of_selected}
+use Rattle.levels.specs.LevelLeft.{IsWholeLeft}
+use Rattle.levels.specs.LevelTaken.{IsLevelLeft}
 use Rattle.levels.specs.WholeAnswer.{AreLevelParts, Choosing, IsVersionWhole, IsWholeCompacted, IsWholeStep, parts_result}
 use Rattle.levels.specs.LevelMade.{IsLevelMadeBy, IsLevelStep}
 use Rattle.levels.specs.WholeRuns.{ArePartLinks, GroupedAnswer, IsWholeRun, groups_in}
 use Rattle.levels.specs.declared.selection.Selection.TheVariants.{Whole}
-
-abbrev Told : Type 1
-Told = List ℕ → Option (List ℕ) → Type 0
 
 -- ---- calls
 
@@ -73,10 +71,7 @@ module _ {F : Type 0} (g : Ghosts F) (old mid : F) (same : g.calls mid ≡ g.cal
         links = w.links;
         chain = links_since [] cmp short_keys v s (manifest_of v) w.parts w.links w.chain;
         written = elim w.written [
-          | inl t ↦ inl (record {
-            runs = calls_since (table_calls (groups_in w.links)) (g.calls old) (g.calls mid) (g.calls new) (g.tells old) (g.tells mid) (g.tells new) result same tells t.runs;
-            refused = t.refused;
-          })
+          | inl t ↦ inl (calls_since (table_calls (groups_in w.links)) (g.calls old) (g.calls mid) (g.calls new) (g.tells old) (g.tells mid) (g.tells new) result same tells t.0, t.1)
           | inr i ↦ (let manifest = manifest_bytes name cmp v (edit_bytes i.1.edit) in inr (
             i.0,
             record {
@@ -98,16 +93,22 @@ module _ {F : Type 0} (g : Ghosts F) (old mid : F) (same : g.calls mid ≡ g.cal
 
 module _ (order : Order) (cmp : List ℕ → List ℕ → Ordering) (short_keys : ShortKeys) (v : State) (files : Files) (loaded : List (ℕ × List ℕ)) (level : ℕ) (s : Settings)
     (first before after : List Step) (zero old new : Told) (r : Result CompactionStep Fault) (reads : ReadsAs cmp order v loaded files) (same : before ≡ first) (told : TellsSame zero old) where
-  moved : (next : LoadedVersion) → SurvivesCrash cmp order (version_with v loaded) next (change_by before after old new) r → SurvivesCrash cmp order (version_with v loaded) next (change_by first after zero new) r
-  moved next h =
-      subst (λ (b : List Step). SurvivesCrash cmp order (version_with v loaded) next (change_by b after zero new) r) same
-      (survives_on cmp order v next.version loaded next.tables before after zero old new r r (λ P x. x) (still zero old told) h)
-
   pub whole_left : IsLevelLeft Whole (order_by order cmp short_keys) (version_with v loaded) level s (change_by before after old new) r → IsWholeLeft (order_by order cmp short_keys) v files level s (change_by first after zero new) r
   whole_left (inl u) = inl (record { calls = u.calls ∙ same; same = told_since zero old new told u.same; refused = u.refused })
-  whole_left (inr (inl t)) = inr (loaded, reads, inr (inl (record { survives = moved (version_with v loaded) t.survives; refused = t.refused })))
+  whole_left (inr (inl t)) =
+      let held = version_with v loaded in
+      inr (
+        loaded,
+        reads,
+        inl (record {
+          survives = subst (λ (b : List Step). SurvivesCrash cmp order held held (change_by b after zero new) r) same (survives_on cmp order v v loaded loaded before after zero old new r r (λ P x. x) (still zero old told) t.survives);
+          refused = t.refused;
+        }),
+      )
   whole_left (inr (inr i)) =
-      inr (loaded, reads, inr (inr (record { step = i.step; compacted = i.compacted; survives = moved (next_of_selected i.compacted) i.survives; named = i.named; is_step = i.is_step; refused = i.refused })))
+      let held = version_with v loaded in
+      let next = next_with cmp i.compacted.edited.next i.compacted.outputs loaded in
+      inr (loaded, reads, inr (record { step = i.step; compacted = i.compacted; installed = installed_told (order_by order cmp short_keys) held next i.step first before after zero old new r same (still zero old told) i.installed }))
 
 -- ---- the test of the version
 

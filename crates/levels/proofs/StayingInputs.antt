@@ -34,7 +34,7 @@ use Rattle.levels.specs.ApartParts.{ShareNone, StandApart}
 abbrev pub chosen_by : PickedInputs → FileMeta → Bool
 chosen_by p = has_number_of (input_numbers p)
 
-below_manifest : (next : Option ℕ) (n : ℕ) → IsBelowNextFile next n → n < unwrap_or next 0
+pub below_manifest : (next : Option ℕ) (n : ℕ) → IsBelowNextFile next n → n < unwrap_or next 0
 below_manifest None n h = absurd h
 below_manifest (Some m) n h = h
 

@@ -30,7 +30,6 @@ use Rattle.folder.specs.Crash.{LeavesOnly, World}
 use Rattle.folder.specs.Manifest.{order_name}
 use Rattle.folder.specs.Orders.{order_cmp, order_short_keys}
 use Rattle.folder.specs.declared.folder.Folder.{Ghosts}
-use Rattle.folder.specs.declared.order.Order.{Order}
 use Rattle.install.specs.FolderChange.{change_of}
 use Rattle.install.specs.Install.{IsEditedBy, table_calls}
 use Rattle.install.specs.Installation.{InstallationSurvives, IsInstallation, place_with}
@@ -59,7 +58,9 @@ use Rattle.levels.proofs.NextNumbered.{next_numbered}
 use Rattle.levels.proofs.PartEdits.{IsEditOver, has_outputs, next_there, own_edit}
 use Rattle.levels.proofs.SelectedParts.{among, selected_placed}
 use Rattle.levels.proofs.PartStep.{thread_at}
-use Rattle.levels.proofs.WholeWork.{AreOver, after, are_over, done_of, edited_by, installed, order_total, stopped}
+use Rattle.levels.proofs.WholeWork.{AreOver, after, are_over, done_of, edited_by, installed, stopped}
+use Rattle.levels.proofs.OpenedNext.{opened}
+use Rattle.install.proofs.Pieces.{order_total}
 
 -- ---- picked inputs are files of the version
 
@@ -94,9 +95,6 @@ picked_placed cmp total v level p picked five = record {
         subst (Contains v.files) (made f.file i.level i.meta (f.stands ∙ ap (λ (x : InputFile). x.level) o.is) (f.is ∙ ap (λ (x : InputFile). x.meta) o.is)) f.there
 
 -- ---- the version after, opened
-
-abbrev opened : Order → State → ℕ → Result (Order × State × ℕ) Fault
-opened o w m = Ok (o, w, m)
 
 module _ (v : NamedVersion) (tables : List (ℕ × List ℕ)) (edit : List ℕ) (made : State) (makes : IsEditedBy (order_cmp v.order) v.version (manifest_of v.version) tables edit made) where
   unnamed : names_another (order_name v.order) makes.edit ≡ false
@@ -279,8 +277,8 @@ module _ {F : Type 0} (g : Ghosts F) (work : WorkSurvives g) (installs : Install
     whole : Survives
     whole = elim w.written [
       | inl t ↦ installation edits all.all.read
-          (stopped g v.named (groups_in w.links) tables all.joined made_of edits (done edits all.all.read).makes old new result t.refused t.runs)
-          (if_none result (λ step. step.edit.items ≡ edits) t.refused)
+          (stopped g v.named (groups_in w.links) tables all.joined made_of edits (done edits all.all.read).makes old new result t.1 t.0)
+          (if_none result (λ step. step.edit.items ≡ edits) t.1)
       | inr i ↦ (
           let bytes = edit_bytes i.1.edit in
           let alike : all.all.edit ≡ i.1.edit = one_edit edits all.all.edit i.1.edit all.all.read i.1.read in
@@ -301,7 +299,7 @@ module _ {F : Type 0} (g : Ghosts F) (work : WorkSurvives g) (installs : Install
 
       by : (links : List GroupedAnswer) → w.links ≡ links → Survives
       by [] none = elim w.written [
-        | inl t ↦ unchanged (nothing result (subst (λ (l : List GroupedAnswer). MakesCalls (table_calls (groups_in l)) (g.calls old) (g.calls new) (g.tells old) (g.tells new) result) none t.runs)) t.refused
+        | inl t ↦ unchanged (nothing result (subst (λ (l : List GroupedAnswer). MakesCalls (table_calls (groups_in l)) (g.calls old) (g.calls new) (g.tells old) (g.tells new) result) none t.0)) t.1
         | inr i ↦ absurd (no_parts w.parts (sym i.0 ∙ ap length none) w.are_parts)
       ]
       by (l ∷ links) some = whole w (λ e. first_link l links (sym some ∙ e))

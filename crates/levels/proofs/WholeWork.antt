@@ -1,11 +1,9 @@
 -- The compaction of a whole level as an installation of all its answers.
-use Rattle.std.proofs.Common.{◌≡◌, ◌≢◌, ℕ, ◌+◌, ◌<◌, ◌≤◌, not, false, true, List, [], ◌∷◌, ◌++◌, length, map, Some, Option, Result, Ok, Err, OnOk, refl, sym, ap, subst, ◌∙◌, inl, inr, arith}
+use Rattle.std.proofs.Common.{◌≡◌, ◌≢◌, ℕ, ◌+◌, ◌<◌, ◌≤◌, not, false, true, List, [], ◌∷◌, ◌++◌, map, Some, Option, Result, Ok, Err, OnOk, refl, sym, ap, subst, ◌∙◌, inl, inr, arith}
 use Rattle.std.specs.Prelude.{Contains, fold}
 use Rattle.std.specs.List.{list_any}
 use Rattle.std.specs.Option.{option_or}
-use Rattle.std.specs.Cmp.{IsTotalOrder}
 use Rattle.std.specs.declared.cmp.Ordering.{Ordering}
-use Rattle.std.proofs.lemmas.Cmp.{nat_cmp_total, nat_list_cmp_total, on_total, then_total}
 use Rattle.std.proofs.lemmas.Grind.{flat_map-append}
 use Rattle.std.proofs.lemmas.List.{append-nil}
 use Rattle.std.proofs.lemmas.List.Elements.{All-contains}
@@ -23,8 +21,6 @@ use Rattle.folder.specs.CallSequence.{MakesCalls}
 use Rattle.folder.specs.Orders.{order_cmp}
 use Rattle.folder.specs.ReadsAs.{IsOneOf}
 use Rattle.folder.specs.declared.folder.Folder.{Ghosts}
-use Rattle.folder.specs.declared.order.Order.{Order}
-use Rattle.folder.specs.declared.order.Order.TheVariants.{Bytewise, Shortlex}
 use Rattle.install.specs.GroupedInstallation.{tables_of_groups}
 use Rattle.install.specs.Install.{IsEditedBy, table_calls}
 use Rattle.install.specs.Installation.{IsInstallation, place_with, tables_link}
@@ -42,7 +38,8 @@ use Rattle.levels.specs.PartsEnd.{last_after}
 use Rattle.levels.specs.WholeAnswer.{edits_of, next_last, tables_of}
 use Rattle.levels.specs.WholeRuns.{ArePartLinks, GroupedAnswer, answers_in, groups_in}
 use Rattle.levels.specs.Survival.{IsNumbered}
-use Rattle.levels.proofs.PartEdits.{IsEditOver, apart_of, at_least, below_manifest, edits_two, next_there, no_number, own_edit}
+use Rattle.levels.proofs.PartEdits.{IsEditOver, apart_of, at_least, edits_two, next_there, no_number, own_edit}
+use Rattle.levels.proofs.StayingInputs.{below_manifest}
 
 -- ---- the edits of all answers as one
 
@@ -145,10 +142,6 @@ module _ (cmp : List ℕ → List ℕ → Ordering) (v : State) (is : IsNumbered
   }
 
 -- ---- the installation
-
-pub order_total : (order : Order) → IsTotalOrder (order_cmp order)
-order_total Bytewise = nat_list_cmp_total
-order_total Shortlex = then_total (on_total length nat_cmp_total) nat_list_cmp_total
 
 -- whether it was done, or the refusal
 abbrev pub done_of : {T : Type 0} → Result T Fault → Result (Unit {0}) Fault

@@ -1,31 +1,28 @@
 -- What compactions of one level after the other leave of a folder, if files that the version
 -- doesn't need are removed after each.
-use Rattle.std.specs.Prelude.{Err, IfErr, List, None, Ok, OnOk, Option, Result, Some, [], length}
-use Rattle.std.specs.Prelude.{true, ℕ, ◌++◌, ◌∷◌, ◌≡◌, ◌≤◌, ◌⊎◌}
+use Rattle.std.specs.Prelude.{Err, IfErr, List, None, Ok, OnOk, Option, Result, Some}
+use Rattle.std.specs.Prelude.{[], length, ℕ, ◌++◌, ◌∷◌, ◌≡◌, ◌≤◌, ◌⊎◌}
 use Rattle.edit.specs.Answers.{UnlessMemory}
 use Rattle.edit.specs.Version.{State}
 use Rattle.edit.specs.fault.Fault.{Fault}
 use Rattle.folder.specs.Calls.{Files, Tells}
-use Rattle.folder.specs.Folder.{TellsSame}
 use Rattle.folder.specs.OpenAnswer.{IsStopped}
 use Rattle.folder.specs.Orders.{order_cmp}
 use Rattle.folder.specs.ReadsAs.{ReadsAs, ReadsBy}
 use Rattle.folder.specs.declared.order.Order.{Order}
-use Rattle.install.specs.FolderChange.{FolderCall, FolderChange}
-use Rattle.install.specs.Install.{LoadedVersion, version_with}
-use Rattle.keep.specs.Gets.{get_of}
-use Rattle.keep.specs.Readable.{is_read, readable_of}
+use Rattle.install.specs.FolderChange.{FolderCall, IsUntouched}
+use Rattle.install.specs.Install.{LoadedVersion, next_with, version_with}
 use Rattle.keep.specs.Tables.{NumberedContents}
 use Rattle.checks.specs.LawfulTables.{IsLawfulTables}
 use Rattle.store.specs.Cleaning.{NamedVersion}
 use Rattle.store.specs.Descent.{IsBottom, IsNextLevel}
-use Rattle.store.specs.FolderRequest.{last_of, manifest_of}
+use Rattle.store.specs.Compaction.{AnswersAs, IsUnchanged}
+use Rattle.store.specs.FolderRequest.{manifest_of}
 use Rattle.store.specs.OrderView.{order_view}
 use Rattle.store.specs.Outcome.{IsTestAnswer}
 use Rattle.store.specs.Step.{StepView}
-use Rattle.levels.specs.LevelLeft.{SelectedCompaction, next_of_selected}
+use Rattle.levels.specs.LevelLeft.{SelectedCompaction}
 use Rattle.levels.specs.LevelMade.{IsRefusedSo, Way}
-use Rattle.levels.specs.Untold.{IsUntold}
 use Rattle.levels.specs.declared.descent_end.DescentEnd.{DescentEnd}
 use Rattle.levels.specs.declared.descent_end.DescentEnd.TheVariants.{AtBottom}
 
@@ -33,8 +30,7 @@ use Rattle.levels.specs.declared.descent_end.DescentEnd.TheVariants.{AtBottom}
 pub record CompactionLink : Type 0 where
   pub level : ℕ
   pub step : StepView
-  pub version : State
-  pub tables : List (ℕ × List ℕ)
+  pub left : LoadedVersion
 
 -- It is a compaction of this version with these tables, of the first level above the bottom that
 -- has a file. What it leaves is its edited version.
@@ -42,60 +38,43 @@ pub record IsLink (way : Way) (v : LoadedVersion) (l : CompactionLink) : Type 0 
   pub next_level : IsNextLevel v.version way.bottom (Some l.level)
   pub compacted : SelectedCompaction way.selection (order_view way.order) v l.level way.settings
       l.step
-  pub version_is : l.version ≡ (next_of_selected compacted).version
-  pub tables_are : l.tables ≡ (next_of_selected compacted).tables
+  pub left_is : l.left ≡ next_with (order_cmp way.order) compacted.edited.next compacted.outputs
+      v.tables
 
 -- compactions, each of the version and the tables that the one before it leaves
 abbrev pub AreLinked : Way → LoadedVersion → List CompactionLink → Type 0
 AreLinked way v [] = Unit {0}
-AreLinked way v (l ∷ links) = IsLink way v l
-    × AreLinked way (version_with l.version l.tables) links
+AreLinked way v (l ∷ links) = IsLink way v l × AreLinked way l.left links
 
 -- a version of a folder, with its tables and the number of its manifest
 pub record FolderVersion : Type 0 where
-  pub version : State
+  pub loaded : LoadedVersion
   pub manifest : ℕ
-  pub tables : List (ℕ × List ℕ)
 
 abbrev pub folder_version : State → ℕ → List (ℕ × List ℕ) → FolderVersion
-folder_version v manifest tables = record { version = v; manifest = manifest; tables = tables }
+folder_version v manifest tables =
+    record { loaded = version_with v tables; manifest = manifest }
 
 -- the version that a compaction of this one leaves, by the manifest that it made
 abbrev pub left_by : FolderVersion → CompactionLink → FolderVersion
-left_by v l = folder_version l.version (manifest_of v.version) l.tables
+left_by v l = record { loaded = l.left; manifest = manifest_of v.loaded.version }
 
--- the versions that compactions leave, each made of the one before it
-abbrev pub versions_left : FolderVersion → List CompactionLink → List FolderVersion
-versions_left v [] = []
-versions_left v (l ∷ links) = left_by v l ∷ versions_left (left_by v l) links
-
--- the version after them
+-- the version after compactions, each of the one before it
 abbrev pub last_left : FolderVersion → List CompactionLink → FolderVersion
 last_left v [] = v
 last_left v (l ∷ links) = last_left (left_by v l) links
 
--- files that read as one of these versions
-abbrev pub ReadsAsOneOf : Order → List FolderVersion → Files → Type 0
-ReadsAsOneOf order [] files = ⊥
-ReadsAsOneOf order (v ∷ versions) files =
-    ReadsAs (order_cmp order) order v.version v.tables files ⊎ ReadsAsOneOf order versions files
-
--- A version with the bytes of its tables answers as another one does: it is lawful, and each get at
--- a sequence that was to stay readable answers as there.
-pub record AnswersAs (way : Way) (v : State) (tables : List NumberedContents)
-    (next : FolderVersion) : Type 0 where
-  pub tables_next : List NumberedContents
-  pub lawful : IsLawfulTables (order_cmp way.order) next.version next.tables (Ok tables_next)
-  pub gets : (user : List ℕ) (at : ℕ) →
-      is_read (readable_of way.settings.snapshots (last_of v)) at ≡ true →
-      get_of next.version tables_next user at ≡ get_of v tables user at
+-- files that read as this version, or as one that compactions leave
+abbrev pub ReadsAsOneOf : Order → LoadedVersion → List CompactionLink → Files → Type 0
+ReadsAsOneOf order v [] files = ReadsAs (order_cmp order) order v.version v.tables files
+ReadsAsOneOf order v (l ∷ links) files =
+    ReadsAs (order_cmp order) order v.version v.tables files ⊎ ReadsAsOneOf order l.left links files
 
 -- the compaction of the next level is refused so
 pub record IsNextLevelRefused (way : Way) (v : FolderVersion) (e : Fault) : Type 0 where
   pub level : ℕ
-  pub next_level : IsNextLevel v.version way.bottom (Some level)
-  pub refused : IsRefusedSo way.selection way.order (version_with v.version v.tables) level
-      way.settings e
+  pub next_level : IsNextLevel v.loaded.version way.bottom (Some level)
+  pub refused : IsRefusedSo way.selection way.order v.loaded level way.settings e
 
 -- What compactions leave of a folder that reads as a version, lawful with its tables, if a removal
 -- follows each. They were made one after the other, and at most one more was begun.
@@ -107,28 +86,19 @@ pub record IsDescended (way : Way) (v : FolderVersion) (tables : List NumberedCo
     (call : FolderCall) (result : Result DescentEnd Fault) : Type 0 where
   pub links : List CompactionLink
   pub begun : List CompactionLink
-  pub chain : AreLinked way (version_with v.version v.tables) (links ++ begun)
+  pub chain : AreLinked way v.loaded (links ++ begun)
   pub few : length begun ≤ 1
   pub none : OnOk result (begun ≡ [])
   pub files_now : Files
   pub holds : Tells call.change.new files_now
-  pub read : ReadsAsOneOf way.order (v ∷ versions_left v (links ++ begun)) files_now
-  pub reads_last : OnOk result (ReadsBy (order_cmp way.order) way.order (last_left v links).version
-      (last_left v links).manifest (last_left v links).tables files_now)
-  pub answers : AnswersAs way v.version tables (last_left v links)
+  pub read : ReadsAsOneOf way.order v.loaded (links ++ begun) files_now
+  pub reads_last : OnOk result (ReadsBy (order_cmp way.order) way.order
+      (last_left v links).loaded.version (last_left v links).manifest
+      (last_left v links).loaded.tables files_now)
+  pub answers : AnswersAs (order_cmp way.order) way.settings v.loaded.version tables
+      (last_left v links).loaded
   pub refused : IfErr result (λ e. UnlessMemory e (IsStopped call.failed call.now e
       ⊎ IsNextLevelRefused way (last_left v links) e))
-
--- No file of the version is above its bottom, so nothing was changed, tested or told.
-pub record IsAtBottom {W : Type 0} (v : State) (change : FolderChange) (told told_now : W)
-    (result : Result DescentEnd Fault) : Type 0 where
-  pub bottom : ℕ
-  pub is_bottom : IsBottom v bottom
-  pub none_above : IsNextLevel v bottom None
-  pub calls : change.after ≡ change.before
-  pub same : TellsSame change.old change.new
-  pub untold : told_now ≡ told
-  pub answer : result ≡ Ok AtBottom
 
 -- The version passed the test, if one was asked for. If it is lawful, as it is after a test,
 -- compactions were made of it.
@@ -144,11 +114,13 @@ pub record IsPassedLeft (way_to : ℕ → Way) (test : Option ℕ) (v : NamedVer
 
 -- What is left of a folder that opens as a version by the manifest of a number, of which all levels
 -- are compacted. Nothing was changed or told: the test is refused, or the device failed. Or no file
--- is above the bottom. Or compactions were made.
+-- is above the bottom, so that nothing was tested, changed or told. Or compactions were made.
 abbrev pub IsAllLevelsLeft : {W : Type 0} → (ℕ → Way) → Option ℕ → NamedVersion → Files →
     FolderCall → W → W → Result DescentEnd Fault → Type 0
 IsAllLevelsLeft way_to test v files call told told_now result =
-    IsUntold call.change told told_now (λ e. IsStopped call.failed call.now e
-    ⊎ IsTestAnswer test files (order_cmp v.order) v.version (Err e)) result
-    ⊎ (IsAtBottom v.version call.change told told_now result
+    (IsUnchanged call.change result × (told_now ≡ told)
+    × IfErr result (λ e. UnlessMemory e (IsStopped call.failed call.now e
+    ⊎ IsTestAnswer test files (order_cmp v.order) v.version (Err e))))
+    ⊎ (((bottom : ℕ) × IsBottom v.version bottom × IsNextLevel v.version bottom None
+    × IsUntouched call.change told told_now × (result ≡ Ok AtBottom))
     ⊎ IsPassedLeft way_to test v files call result)

@@ -1,15 +1,14 @@
 -- Which calls the compactions of all levels make on a folder, be it one that tells what it holds or
 -- not, if files that the version doesn't need are removed after each; and what is told.
-use Rattle.std.specs.Prelude.{Bool, IfOk, List, None, Ok, OnOk, Result, Some, [], false, true, ℕ}
+use Rattle.std.specs.Prelude.{Bool, IfOk, List, None, Ok, Result, Some, [], false, true, ℕ}
 use Rattle.std.specs.Prelude.{◌∷◌, ◌≡◌, ◌⊎◌}
 use Rattle.edit.specs.Version.{State}
 use Rattle.edit.specs.fault.Fault.{Fault}
-use Rattle.folder.specs.Calls.{Step}
-use Rattle.folder.specs.Folder.{TellsSame}
 use Rattle.folder.specs.Reports.{OnlyReads}
 use Rattle.folder.specs.declared.folder.Folder.{Ghosts}
-use Rattle.install.specs.FolderChange.{change_of}
+use Rattle.install.specs.FolderChange.{IsUntouched, change_of}
 use Rattle.store.specs.Cleaning.{CleanTeller, IsCleaned, named_version}
+use Rattle.store.specs.Compaction.{IsUnchanged}
 use Rattle.store.specs.Descent.{IsBottom, IsNextLevel}
 use Rattle.store.specs.FolderRequest.{manifest_of}
 use Rattle.store.specs.OpenedAfter.{IsOpenedAfter}
@@ -53,35 +52,20 @@ IsGoing goes u = goes ≡ true
 abbrev pub IsStopTold : Bool → DescentEnd → Type 0
 IsStopTold goes end = (end ≡ Stopped) × (goes ≡ false)
 
--- no further one was begun; at Ok no file is above the bottom
-pub record IsNoneBegun {F W : Type 0} (g : Ghosts F) (bottom : ℕ) (v : State) (at end : At F W)
-    (result : Result DescentEnd Fault) : Type 0 where
-  pub calls : g.calls end.folder ≡ g.calls at.folder
-  pub same : TellsSame (g.tells at.folder) (g.tells end.folder)
-  pub untold : end.told ≡ at.told
-  pub ended : IfOk result (λ e. (e ≡ AtBottom) × IsNextLevel v bottom None)
-
--- the last one, after which no removal follows: it was refused, or told to stop
-pub record IsLastMade {F W : Type 0} (g : Ghosts F) (by : CleanTeller W) (way : Way) (v : State)
-    (at end : At F W) (result : Result DescentEnd Fault) : Type 0 where
-  pub level : ℕ
-  pub next_level : IsNextLevel v way.bottom (Some level)
-  pub level_made : IsLevelMade g by.installs way v level at end IsStopTold result
-
--- the last one, whose removal was refused, or told to stop
-pub record IsLastCleaned {F W : Type 0} (g : Ghosts F) (by : CleanTeller W) (way : Way) (v : State)
-    (at end : At F W) (result : Result DescentEnd Fault) : Type 0 where
-  pub link : DescentLink F W
-  pub is_end : link.after ≡ end
-  pub installed : IsLinkInstalled g by way v at link
-  pub cleaned : IsLinkCleaned g by way v link IsStopTold result
-
 -- These compactions and removals were made, each of the version and in the folder that the one
--- before it leaves, and after them at most one more compaction.
+-- before it leaves, and after them at most one more compaction:
+-- - no further one was begun; at Ok no file is above the bottom;
+-- - or the last one was refused, or told to stop, and no removal follows;
+-- - or its removal was refused, or told to stop.
 abbrev pub AreLinksMade : {F W : Type 0} → Ghosts F → CleanTeller W → Way → State → At F W →
     At F W → Result DescentEnd Fault → List (DescentLink F W) → Type 0
-AreLinksMade g by way v at end result [] = IsNoneBegun g way.bottom v at end result
-    ⊎ (IsLastMade g by way v at end result ⊎ IsLastCleaned g by way v at end result)
+AreLinksMade {F} {W} g by way v at end result [] =
+    (IsUntouched (change_of g at.folder end.folder) at.told end.told
+    × IfOk result (λ e. (e ≡ AtBottom) × IsNextLevel v way.bottom None))
+    ⊎ (((level : ℕ) × IsNextLevel v way.bottom (Some level)
+    × IsLevelMade g by.installs way v level at end IsStopTold result)
+    ⊎ ((link : DescentLink F W) × (link.after ≡ end) × IsLinkInstalled g by way v at link
+    × IsLinkCleaned g by way v link IsStopTold result))
 AreLinksMade g by way v at end result (l ∷ links) = IsLinkInstalled g by way v at l
     × IsLinkCleaned g by way v l IsGoing (Ok tt)
     × AreLinksMade g by way l.next l.after end result links
@@ -92,18 +76,11 @@ abbrev pub IsDescentRun : {F W : Type 0} → Ghosts F → CleanTeller W → Way 
 IsDescentRun {F = F} {W = W} g by way v at end result =
     (links : List (DescentLink F W)) × AreLinksMade g by way v at end result links
 
--- no call that writes was made, and nothing told
-pub record MakesNoCalls {T W : Type 0} (before after : List Step) (told told_now : W)
-    (result : Result T Fault) : Type 0 where
-  pub calls : after ≡ before
-  pub untold : told_now ≡ told
-  pub refused : OnOk result ⊥
-
 -- No call that writes was made, and nothing told. Or the folder was only read at first, and then
 -- compactions were made.
 abbrev pub IsAllLevelsRun : {F W : Type 0} → Ghosts F → CleanTeller W → (ℕ → Way) → State →
     At F W → At F W → Result DescentEnd Fault → Type 0
 IsAllLevelsRun {F = F} g by way_to v at end result =
-    MakesNoCalls (g.calls at.folder) (g.calls end.folder) at.told end.told result
+    (IsUnchanged (change_of g at.folder end.folder) result × (end.told ≡ at.told))
     ⊎ ((bottom : ℕ) × IsBottom v bottom × (read : F) × OnlyReads g at.folder read
     × IsDescentRun g by (way_to bottom) v (at_by read at.told) end result)

@@ -71,12 +71,8 @@ pub record Way : Type 0 where
   pub bottom : ℕ
 
 abbrev pub way_by : Selection → Order → Settings → ℕ → Way
-way_by selection order settings bottom = record {
-  selection = selection;
-  order = order;
-  settings = settings;
-  bottom = bottom;
-}
+way_by selection order settings bottom =
+    record { selection = selection; order = order; settings = settings; bottom = bottom }
 
 -- A level of this version was compacted, and it was told.
 pub record IsLevelMade {F T W : Type 0} (g : Ghosts F) (tells : W → StepView → Bool → W → Type 0)

@@ -14,16 +14,18 @@ use Rattle.folder.specs.OpenAnswer.{IsStopped}
 use Rattle.folder.specs.declared.folder.Folder.{Ghosts}
 use Rattle.install.specs.FolderChange.{FolderCall, FolderChange}
 use Rattle.install.specs.Install.{LoadedVersion}
+use Rattle.compact.specs.declared.settings.Settings.{Settings}
+use Rattle.store.specs.Compaction.{IsUnchanged}
 use Rattle.store.specs.Descent.{IsBottom, IsNextLevel}
 use Rattle.store.specs.FolderRequest.{manifest_of}
 use Rattle.store.specs.OpenedAfter.{IsOpenedAfter}
-use Rattle.store.specs.OrderView.{order_view}
+use Rattle.store.specs.OrderView.{OrderView, order_view}
 use Rattle.store.specs.Step.{StepView}
 use Rattle.store.specs.Telling.{IsGoTold}
 use Rattle.store.specs.declared.compaction_step.CompactionStep.{CompactionStep}
 use Rattle.store.specs.declared.synced_version.SyncedVersion.{SyncedVersion}
 use Rattle.levels.specs.WholeAnswer.{AreSelected, PicksInputs}
-use Rattle.levels.specs.LevelLeft.{IsLevelInstalled, IsLevelLeft}
+use Rattle.levels.specs.LevelLeft.{IsLevelInstalled, IsWholeStopped}
 use Rattle.levels.specs.LevelMade.{At, IsLevelMade, IsRefusedSo, Way}
 use Rattle.levels.specs.declared.selection.Selection.{Selection}
 
@@ -38,6 +40,13 @@ AreTaken selection cmp v level (Err e) = UnlessMemory e (AreSelected selection c
 abbrev pub IsBottomBelow : State → Option ℕ → Type 0
 IsBottomBelow v None = (bottom : ℕ) × IsBottom v bottom × IsNextLevel v bottom None
 IsBottomBelow v (Some bottom) = IsBottom v bottom
+
+-- What is left of a folder that reads as this version with these tables: it is unchanged; or tables
+-- were written that no version names; or a compaction of the level was installed.
+abbrev pub IsLevelLeft : Selection → OrderView → LoadedVersion → ℕ → Settings → FolderChange →
+    Result CompactionStep Fault → Type 0
+IsLevelLeft selection by v level s change result = IsUnchanged change result
+    ⊎ (IsWholeStopped by v change result ⊎ IsLevelInstalled selection by v level s change result)
 
 -- it was refused, by its refusal, or since the device failed
 pub record IsLevelRefused (way : Way) (v : LoadedVersion) (level : ℕ) (call : FolderCall)

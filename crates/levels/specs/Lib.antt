@@ -7,7 +7,6 @@ pub mod ApartParts
 pub mod LevelMade
 pub mod DescentRuns
 pub mod DescentLeft
-pub mod Untold
 -- serves proofs alone
 pub mod LevelTaken
 pub mod PartsEnd

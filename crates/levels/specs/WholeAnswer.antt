@@ -1,10 +1,10 @@
 -- Which parts of a level are compacted together, and what that answers, from one version.
 use Rattle.std.specs.List.{sum_by}
 use Rattle.std.specs.Prelude.{Bool, Err, List, Ok, Result, Some, [], filter, flat_map, length}
-use Rattle.std.specs.Prelude.{nat_le, nat_lt, ℕ, ◌&&◌, ◌+◌, ◌-◌, ◌^◌, ◌∷◌, ◌≡◌}
+use Rattle.std.specs.Prelude.{nat_le, nat_lt, ℕ, ◌&&◌, ◌+◌, ◌-◌, ◌^◌, ◌∷◌, ◌≡◌, ◌≢◌}
 use Rattle.edit.specs.Answers.{IsThen, fault, ◌>>=◌}
 use Rattle.edit.specs.Comparator.{KeyOrder, ShortKeys}
-use Rattle.edit.specs.Edit.{Edit, IsEdit, edit_bytes}
+use Rattle.edit.specs.Edit.{Edit, IsEdit}
 use Rattle.edit.specs.Version.{State}
 use Rattle.edit.specs.fault.Fault.{Fault}
 use Rattle.edit.specs.fault.FaultName.TheVariants.{NoInput, Numbers}
@@ -23,7 +23,7 @@ use Rattle.compact.specs.declared.settings.Settings.{Settings}
 use Rattle.checks.specs.LawfulTables.{IsLawfulTables}
 use Rattle.store.specs.FolderRequest.{compaction_from, manifest_of}
 use Rattle.store.specs.InputsCompaction.{ArePartsFound}
-use Rattle.store.specs.Step.{StepView}
+use Rattle.store.specs.Step.{StepView, step_by}
 use Rattle.levels.specs.declared.selection.Selection.{Selection}
 use Rattle.levels.specs.declared.selection.Selection.TheVariants.{Fitting, Whole}
 
@@ -88,17 +88,11 @@ abbrev pub ArePartsFitting : ℕ → KeyOrder → State → ℕ → Choosing
 ArePartsFitting memory cmp v level = IsThen (ArePartsFound cmp v level)
     (λ parts answer. answer ≡ Ok (filter (fits memory) parts))
 
--- the same, if there is such a part
-abbrev pub AreSomeFitting : ℕ → KeyOrder → State → ℕ → Choosing
-AreSomeFitting memory cmp v level (Ok []) = ⊥
-AreSomeFitting memory cmp v level (Ok (p ∷ parts)) =
-    ArePartsFitting memory cmp v level (Ok (p ∷ parts))
-AreSomeFitting memory cmp v level (Err e) = ArePartsFitting memory cmp v level (Err e)
-
--- the parts that a selection takes of a level
+-- the parts that a selection takes of a level: all, or those that fit, if there are any
 abbrev pub AreSelected : Selection → KeyOrder → State → ℕ → Choosing
 AreSelected Whole cmp v level = AreLevelParts cmp v level
-AreSelected (Fitting memory) cmp v level = AreSomeFitting memory cmp v level
+AreSelected (Fitting memory) cmp v level =
+    λ answer. ArePartsFitting memory cmp v level answer × (answer ≢ Ok [])
 
 -- A selection takes no part of a level, since none fits, and so the inputs that the rules pick.
 abbrev pub PicksInputs : Selection → KeyOrder → State → ℕ → Type 0
@@ -107,33 +101,23 @@ PicksInputs (Fitting memory) cmp v level = ArePartsFitting memory cmp v level (O
 
 -- ---- a level
 
--- The answers for chosen parts of a level of a version with the bytes of its tables. The first
--- refusal counts: of a table; of a version that isn't lawful; of the choice; of their compactions.
-abbrev pub IsLoadedWhole : KeyOrder → ShortKeys → State → List (ℕ × List ℕ) → Choosing → Settings →
-    Result (List Answer) Fault → Type 0
-IsLoadedWhole cmp short_keys v loaded AreChosen s =
-    IsThen (IsLawfulTables cmp v loaded) (λ tables.
-    IsThen AreChosen (λ parts answer.
-    answer ≡ parts_result cmp short_keys v loaded s (manifest_of v) parts))
-
--- the same with tables in a folder: first all of them are read, by level and in version order
+-- The answers for chosen parts of a level of a version with tables in a folder. The first refusal
+-- counts: of a table, which are read by level and in version order; of a version that isn't lawful;
+-- of the choice; of their compactions.
 abbrev pub IsVersionWhole : KeyOrder → ShortKeys → Files → State → Choosing → Settings →
     Result (List Answer) Fault → Type 0
 IsVersionWhole cmp short_keys files v AreChosen s =
-    IsThen (IsLoaded (IsFileIn files) (file_numbers cmp v))
-    (λ loaded. IsLoadedWhole cmp short_keys v loaded AreChosen s)
+    IsThen (IsLoaded (IsFileIn files) (file_numbers cmp v)) (λ loaded.
+    IsThen (IsLawfulTables cmp v loaded) (λ tables.
+    IsThen AreChosen (λ parts answer.
+    answer ≡ parts_result cmp short_keys v loaded s (manifest_of v) parts)))
 
 -- ---- its step
 
 -- The step of answers whose edits together are this one: all outputs in order, and the files that
 -- the edit deletes. The number of the manifest is the version's next file.
 abbrev pub whole_step : State → List Answer → Edit → StepView
-whole_step v answers e = record {
-  outputs = table_sizes (tables_of answers);
-  deleted = e.deleted;
-  manifest = manifest_of v;
-  edit = edit_bytes e;
-}
+whole_step v answers e = step_by v (table_sizes (tables_of answers)) e
 
 -- the step of answers: their edits, one after the other, read as one edit
 abbrev pub IsWholeStep : State → List Answer → Result StepView Fault → Type 0

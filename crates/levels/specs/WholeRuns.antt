@@ -14,7 +14,7 @@ use Rattle.pick.specs.PickedInputs.{PickedInputs}
 use Rattle.folder.specs.CallSequence.{MakesCalls}
 use Rattle.folder.specs.Calls.{Done, Step}
 use Rattle.folder.specs.declared.folder.Folder.{Ghosts}
-use Rattle.install.specs.FolderChange.{FolderChange, change_of}
+use Rattle.install.specs.FolderChange.{change_of}
 use Rattle.install.specs.Install.{calls_before_rename, current_calls, manifest_bytes}
 use Rattle.install.specs.Install.{manifest_calls, table_calls}
 use Rattle.compact.specs.OneThread.{Answer}
@@ -66,13 +66,6 @@ ArePartLinks g first so_far cmp short_keys v s last (p ∷ parts) (l ∷ links) 
     × ArePartLinks g first (so_far ++ map Done (table_calls l.groups)) cmp short_keys v s
     (next_last last l.answer) parts links
 
--- the tables of these answers were written, up to a call that failed or to a refusal
-pub record AreTablesWritten (links : List GroupedAnswer) (change : FolderChange)
-    (result : Result CompactionStep Fault) : Type 0 where
-  pub runs : MakesCalls (table_calls (groups_in links)) change.before change.after change.old
-      change.new result
-  pub refused : OnOk result ⊥
-
 -- All tables were written, and then the manifest that has the edits as one, up to a call that
 -- fails. At Changed all calls before the rename were made, and no others. At Ok the step is that of
 -- the answers. The only faults are Device, Changed and Memory.
@@ -96,7 +89,7 @@ pub record AreWholeInstalled {F : Type 0} (g : Ghosts F) (name : List ℕ) (cmp 
       (λ e. UnlessMemory e ((e ≡ fault Device) ⊎ (e ≡ fault Changed)))
 
 -- The chosen parts were compacted in their order, each from this version. The tables of the first
--- of them were written, and then it was refused; or all were, and the manifest.
+-- of them were written, up to a call that failed or to a refusal; or all were, and the manifest.
 pub record IsWholeWritten {F : Type 0} (g : Ghosts F) (name : List ℕ) (cmp : KeyOrder)
     (short_keys : ShortKeys) (v : State) (AreChosen : Choosing) (s : Settings) (old new : F)
     (result : Result CompactionStep Fault) : Type 0 where
@@ -104,7 +97,8 @@ pub record IsWholeWritten {F : Type 0} (g : Ghosts F) (name : List ℕ) (cmp : K
   pub are_parts : AreChosen (Ok parts)
   pub links : List GroupedAnswer
   pub chain : ArePartLinks g old [] cmp short_keys v s (manifest_of v) parts links
-  pub written : AreTablesWritten links (change_of g old new) result
+  pub written : (MakesCalls (table_calls (groups_in links)) (g.calls old) (g.calls new)
+      (g.tells old) (g.tells new) result × OnOk result ⊥)
       ⊎ ((length links ≡ length parts)
       × AreWholeInstalled g name cmp v links old new result)
 

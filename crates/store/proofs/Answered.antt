@@ -18,12 +18,7 @@ use Rattle.store.specs.FolderRequest.{compaction_from}
 use Rattle.store.specs.FoundInputs.{step_result}
 use Rattle.store.specs.InputsCompaction.{IsReadAnswer, input_tables}
 use Rattle.store.specs.Step.{IsStepFor, StepView, with_inputs}
-
-abbrev refusal : {Y : Type 0} → Fault → Result Y Fault
-refusal e = Err e
-
-no_error : {Y : Type 0} (y : Y) (e : Fault) → Ok y ≡ refusal e → ⊥
-no_error y e h = cc
+use Rattle.store.proofs.Flow.{no_refusal as no_error, refusal}
 
 -- ---- what is made of an answer
 

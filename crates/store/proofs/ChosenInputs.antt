@@ -96,7 +96,7 @@ pub record IsAnsweredOf (first : Option ℕ) (cmp : List ℕ → List ℕ → Or
   pub read : IsLoaded (IsFileIn files) (input_numbers p.files) (Ok own)
   pub answered : compaction_from first cmp short_keys v own p s ≡ Ok a
 
-abbrev value : PickedInputs × Answer → Result (PickedInputs × Answer) Fault
+abbrev pub value : PickedInputs × Answer → Result (PickedInputs × Answer) Fault
 value x = Ok x
 
 abbrev refusal : Fault → Result (PickedInputs × Answer) Fault

@@ -65,6 +65,7 @@ use Rattle.store.specs.ClosedLaws.{ClosedJointLaw, EditedWithin}
 use Rattle.store.proofs.Loaded.{bytes_found, found_loaded}
 use Rattle.store.proofs.SameTables.{same_get, same_lawful}
 use Rattle.store.proofs.TablesAfter.{HasNumber, number_of, read_after, reads_after, same_after}
+use Rattle.pick.proofs.Grown.{not_true as not_is_true}
 
 -- ---- the first number of the outputs
 
@@ -128,7 +129,7 @@ some_mapped f (x ∷ xs) = ap (λ (ys : List (Option (List ℕ))). Some (f x) �
 -- ---- the numbers of the outputs
 
 -- the numbers of new files are those of the outputs
-new_numbers : (level : ℕ) (outputs : List Output) → map (λ (f : NewFile). f.meta.number) (map (new_file level) outputs) ≡ numbers_of (numbered_tables outputs)
+pub new_numbers : (level : ℕ) (outputs : List Output) → map (λ (f : NewFile). f.meta.number) (map (new_file level) outputs) ≡ numbers_of (numbered_tables outputs)
 new_numbers level [] = refl
 new_numbers level (q ∷ outputs) = ap (λ (ns : List ℕ). q.number ∷ ns) (new_numbers level outputs)
 
@@ -144,10 +145,6 @@ below_next next m n is h = subst (λ (o : Option ℕ). IsBelowNextFile o n) is h
 pub some_input : (files : List InputFile) → files ≢ [] → (i : InputFile) × Contains files i
 some_input [] h = absurd (h refl)
 some_input (i ∷ files) h = (i, first_in i files)
-
-not_is_true : (b : Bool) → not b ≡ true → b ≡ false
-not_is_true true e = absurd cc
-not_is_true false e = refl
 
 -- ---- inputs that are safe to compact
 
@@ -334,13 +331,15 @@ module _ (cmp : List ℕ → List ℕ → Ordering) (total : IsTotalOrder cmp) (
     some = next_positive;
     rises = omega (arith, high);
     small = held.few;
-    tables_next = read;
-    lawful = sound cmp next (install.next_version_tables cmp next answer.tables loaded) read (reads_after cmp loaded tables p answer next checked low_next after)
-        (same_lawful next read (tables_after cmp p answer tables) same cmp after);
-    gets = λ user at is.
-        same_get next read (tables_after cmp p answer tables) same user at
-        ∙ get_is cmp total exact v tables p (readable_of s.snapshots (last_of v)) held.union next (tables_after cmp p answer tables) lawful low safe held.is_union
-        (holds_after cmp total exact short_keys v tables r answer lawful safe over held) user at is;
+    answers = record {
+      tables_next = read;
+      lawful = sound cmp next (install.next_version_tables cmp next answer.tables loaded) read (reads_after cmp loaded tables p answer next checked low_next after)
+          (same_lawful next read (tables_after cmp p answer tables) same cmp after);
+      gets = λ user at is.
+          same_get next read (tables_after cmp p answer tables) same user at
+          ∙ get_is cmp total exact v tables p (readable_of s.snapshots (last_of v)) held.union next (tables_after cmp p answer tables) lawful low safe held.is_union
+          (holds_after cmp total exact short_keys v tables r answer lawful safe over held) user at is;
+    };
   }
 
   pub safe_installed : EditedWithin cmp v loaded tables p s answer

@@ -10,11 +10,14 @@ use Rattle.folder.specs.Calls.{Files, Tells}
 use Rattle.folder.specs.OpenAnswer.{FolderAnswers, HasDeviceFailed, IsStopped}
 use Rattle.folder.specs.ReadsAs.{IsFileIn}
 
-abbrev refusal : {Y : Type 0} → Fault → Result Y Fault
+abbrev pub refusal : {Y : Type 0} → Fault → Result Y Fault
 refusal e = Err e
 
 pub no_refusal : {Y : Type 0} (y : Y) (e : Fault) → Ok y ≡ refusal e → ⊥
 no_refusal y e h = cc
+
+pub same_refusal : {Y : Type 0} (e d : Fault) → refusal {Y = Y} e ≡ refusal d → e ≡ d
+same_refusal e d h = cc
 
 -- files tell themselves
 pub told_themselves : (files : Files) → Tells (IsFileIn files) files

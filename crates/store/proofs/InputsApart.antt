@@ -23,7 +23,7 @@ use Rattle.reads.proofs.Levels.{IsAtLevel, from_level}
 use Rattle.reads.proofs.Members.{first_in, from_filter, from_map, later_in}
 use Rattle.reads.proofs.Pairs.{Pairs, pairs_append, pairs_from, pairs_map, pairs_to}
 use Rattle.store.specs.InputsCompaction.{input_numbers}
-use Rattle.store.proofs.Loaded.{not_equal}
+use Rattle.compact.proofs.AppliedEdit.{not_equal}
 
 abbrev pub AreTwoInputs : InputFile → InputFile → Type 0
 AreTwoInputs i j = i.meta.number ≢ j.meta.number

@@ -13,10 +13,11 @@ use Rattle.folder.specs.Names.{current_text}
 use Rattle.folder.specs.OpenAnswer.{IsOpened, IsStopped}
 use Rattle.folder.specs.ReadsAs.{IsFileIn}
 use Rattle.folder.specs.declared.order.Order.{Order}
-use Rattle.install.specs.Install.{IsEditedBy, LoadedVersion, SurvivesCrash, next_version_tables, version_with}
+use Rattle.install.specs.Install.{IsEditedBy, LoadedVersion, SurvivesCrash, next_version_tables, next_with, version_with}
 use Rattle.install.proofs.Moments.{made_by}
 use Rattle.compact.specs.OneThread.{Answer}
-use Rattle.store.specs.StepLeft.{IsFolderLeft, IsStepInstalled, IsVersionLeft}
+use Rattle.store.specs.Step.{StepView, step_of}
+use Rattle.store.specs.StepLeft.{IsFolderLeft, IsInstalled, IsStepInstalled, IsVersionLeft}
 use Rattle.folder.specs.Orders.{order_cmp}
 use Rattle.compact.specs.declared.settings.Settings.{Settings}
 use Rattle.store.specs.VersionSync.{sync_calls}
@@ -68,22 +69,26 @@ valued_on r x (Err e) P is given = tt
 pub still : (old new : List ℕ → Option (List ℕ) → Type 0) → TellsSame old new → (files : Files) → Tells old files → Tells new files
 still old new same files tells name held = (λ h. (tells name held).0 ((same name held).1 h), λ h. (same name held).0 ((tells name held).1 h))
 
--- a step, told from earlier calls on
+-- an installation, told from earlier calls on
+pub installed_told : (by : OrderView) (v next : LoadedVersion) (step : StepView) (first before after : List Step) (zero old new : List ℕ → Option (List ℕ) → Type 0) (r : Result CompactionStep Fault)
+    → before ≡ first → ((files : Files) → Tells zero files → Tells old files) → IsInstalled by v next step (change_by before after old new) r → IsInstalled by v next step (change_by first after zero new) r
+installed_told by v next step first before after zero old new r same told i = record {
+  survives = subst (λ (b : List Step). SurvivesCrash by.cmp by.order v next (change_by b after zero new) r) same
+      (survives_on by.cmp by.order v.version next.version v.tables next.tables before after zero old new r r (λ P x. x) told i.survives);
+  named = i.named;
+  is_step = i.is_step;
+  refused = i.refused;
+}
+
+-- a step
 pub step_told : (by : OrderView) (v : LoadedVersion) (level : ℕ) (s : Settings) (first before after : List Step) (zero old new : List ℕ → Option (List ℕ) → Type 0) (r : Result CompactionStep Fault)
     → before ≡ first → ((files : Files) → Tells zero files → Tells old files) → IsStepInstalled by v level s (change_by before after old new) r → IsStepInstalled by v level s (change_by first after zero new) r
-step_told by v level s first before after zero old new r same told i =
-    let next = i.compacted.edited.next in
-    let tables' = next_version_tables by.cmp next i.answer.tables v.tables in
-    record {
-      picked = i.picked;
-      answer = i.answer;
-      compacted = i.compacted;
-      survives = subst (λ (b : List Step). SurvivesCrash by.cmp by.order v (version_with next tables') (change_by b after zero new) r) same
-          (survives_on by.cmp by.order v.version next v.tables tables' before after zero old new r r (λ P x. x) told i.survives);
-      named = i.named;
-      step = i.step;
-      refused = i.refused;
-    }
+step_told by v level s first before after zero old new r same told i = record {
+  picked = i.picked;
+  answer = i.answer;
+  compacted = i.compacted;
+  installed = installed_told by v (next_with by.cmp i.compacted.edited.next i.answer.tables v.tables) (step_of v.version i.picked i.answer) first before after zero old new r same told i.installed;
+}
 
 -- the version was opened, and its sync was refused
 pub sync_refused : {T : Type 0} (order : Order) (v : State) (manifest : ℕ) (files : Files) (level : ℕ) (s : Settings) (first before after : List Step) (zero old new : List ℕ → Option (List ℕ) → Type 0) (r : Result T Fault) (q : Result CompactionStep Fault)
@@ -92,9 +97,7 @@ pub sync_refused : {T : Type 0} (order : Order) (v : State) (manifest : ℕ) (fi
 sync_refused order v manifest files level s first before after zero old new r q opened named is same runs refused =
     let calls = sync_calls (order_cmp order) v manifest in
     inr (record {
-      order = order;
-      version = v;
-      manifest = manifest;
+      now = record { order = order; version = v; manifest = manifest };
       opened = opened;
       named = named;
       left = inl (record {
@@ -124,9 +127,7 @@ synced_left order v manifest files level s first before synced after zero old mi
     let told = λ (fs : Files) (tells : Tells zero fs). syncs_tell (order_cmp order) v manifest before synced old middle r runs fs (still zero old same fs tells) in
     let all : runs.steps ≡ map Done calls = all_made calls runs.steps r x was runs.made in
     inr (record {
-      order = order;
-      version = v;
-      manifest = manifest;
+      now = record { order = order; version = v; manifest = manifest };
       opened = opened;
       named = named;
       left = elim left [

@@ -25,7 +25,7 @@ mod NamesThere
 mod Runs
 mod WholeOutcomes
 mod GroupRuns
-mod Descending
+pub mod Descending
 pub mod CleanParts
 pub mod PartFiles
 pub mod PartRefusals

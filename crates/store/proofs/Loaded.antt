@@ -14,13 +14,7 @@ use Rattle.reads.specs.Tables.{NumberedContents, table_of_number}
 use Rattle.checks.specs.TableReadings.{tables_reading}
 use Rattle.checks.proofs.FoundTables.{CheckedParts, checked_parts}
 use Rattle.install.specs.Install.{table_bytes_of}
-
-pub not_equal : (m n : ℕ) → (m ≡ n → ⊥) → eqb m n ≡ false
-not_equal m n h = by (eqb m n) refl
-  where
-    by : (b : Bool) → eqb m n ≡ b → b ≡ false
-    by true e = absurd (h (eqb-true m n e))
-    by false e = refl
+use Rattle.compact.proofs.AppliedEdit.{not_equal}
 
 -- a test of two numbers, turned
 pub turned : (m n : ℕ) → eqb m n ≡ eqb n m

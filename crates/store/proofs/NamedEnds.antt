@@ -23,26 +23,34 @@ use Rattle.store.proofs.PlannedPart.{unchanged}
 -- ---- the same calls, under another answer
 
 calls_err : {F X Y : Type 0} {g : Ghosts F} (one two : List Call) (opened : ℕ) (old new : F) (e : Fault) → IsInstallCalls {X = X} g one two opened old new (Err e) → IsInstallCalls {X = Y} g one two opened old new (Err e)
-calls_err {X = X} {Y = Y} {g = g} one two opened old new e h = record {
-  runs = record { steps = h.runs.steps; made = h.runs.made; appended = h.runs.appended; change = h.runs.change };
-  left = h.left;
-  again = tt;
-  refused = h.refused;
-  same_current = h.same_current;
-  other_current = h.other_current;
-  device = record { device = h.device.device; at_once = stops_on {X = Y} {Z = X} (g.failed old) (g.failed new) (Err e) (Err e) e refl refl h.device.at_once; later = h.device.later };
-}
+calls_err {X = X} {Y = Y} {g = g} one two opened old new e h =
+    let run = h.run in
+    record {
+      run = record {
+        runs = record { steps = run.runs.steps; made = run.runs.made; appended = run.runs.appended; change = run.runs.change };
+        left = run.left;
+        refused = run.refused;
+        same_current = run.same_current;
+        other_current = run.other_current;
+        device = record { device = run.device.device; at_once = stops_on {X = Y} {Z = X} (g.failed old) (g.failed new) (Err e) (Err e) e refl refl run.device.at_once; later = run.device.later };
+      };
+      again = tt;
+    }
 
 calls_ok : {F X Y : Type 0} {g : Ghosts F} (one two : List Call) (opened : ℕ) (old new : F) (x : X) (y : Y) → IsInstallCalls g one two opened old new (Ok x) → IsInstallCalls g one two opened old new (Ok y)
-calls_ok {X = X} {Y = Y} {g = g} one two opened old new x y h = record {
-  runs = record { steps = h.runs.steps; made = h.runs.made; appended = h.runs.appended; change = h.runs.change };
-  left = tt;
-  again = h.again;
-  refused = tt;
-  same_current = λ files told is. tt;
-  other_current = λ files told other. h.other_current files told other;
-  device = record { device = tt; at_once = stops_ok {X = Y} {Z = X} (g.failed old) (g.failed new) x (Ok x) (Ok y) refl h.device.at_once; later = h.device.later };
-}
+calls_ok {X = X} {Y = Y} {g = g} one two opened old new x y h =
+    let run = h.run in
+    record {
+      run = record {
+        runs = record { steps = run.runs.steps; made = run.runs.made; appended = run.runs.appended; change = run.runs.change };
+        left = tt;
+        refused = tt;
+        same_current = λ files told is. tt;
+        other_current = λ files told other. run.other_current files told other;
+        device = record { device = tt; at_once = stops_ok {X = Y} {Z = X} (g.failed old) (g.failed new) x (Ok x) (Ok y) refl run.device.at_once; later = run.device.later };
+      };
+      again = h.again;
+    }
 
 pub handed_install : {F X Y : Type 0} {g : Ghosts F} (one two : List Call) (opened : ℕ) (old new : F) (r : Result X Fault) (q : Result Y Fault) (e : Fault) → r ≡ Err e → IsErrAnd q (λ f. f ≡ e) → IsInstallCalls g one two opened old new r → IsInstallCalls g one two opened old new q
 handed_install one two opened old new r (Ok y) e was is h = absurd is

@@ -14,10 +14,7 @@ use Rattle.folder.specs.Names.{current_text, manifest_name}
 use Rattle.folder.specs.OpenAnswer.{FolderAnswers, IsStopped}
 use Rattle.store.specs.FilesToCompact.{name_line, name_there, names_there}
 use Rattle.store.specs.NameLines.{line_after, lines_after}
-use Rattle.store.proofs.Flow.{no_refusal}
-
-abbrev refusal : {Y : Type 0} → Fault → Result Y Fault
-refusal e = Err e
+use Rattle.store.proofs.Flow.{no_refusal, refusal}
 
 -- ---- one name
 

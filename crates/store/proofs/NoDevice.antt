@@ -36,12 +36,7 @@ use Rattle.store.specs.Step.{IsStepFor, StepView, with_inputs}
 use Rattle.store.specs.FolderRequest.{compaction_from, first_output, numbered_request, request_from}
 use Rattle.compact.specs.declared.settings.Settings.{Settings}
 use Rattle.folder.specs.Comparator.{ShortKeys}
-
-abbrev refusal : {Y : Type 0} → Fault → Result Y Fault
-refusal e = Err e
-
-same_refusal : {Y : Type 0} (e d : Fault) → refusal {Y = Y} e ≡ refusal d → e ≡ d
-same_refusal e d h = cc
+use Rattle.store.proofs.Flow.{same_refusal, refusal}
 
 no_value_refused : {Y : Type 0} {y : Y} (e : Fault) → refusal {Y = Y} e ≡ Ok y → ⊥
 no_value_refused e h = cc

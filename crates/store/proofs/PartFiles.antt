@@ -24,7 +24,7 @@ use Rattle.pick.specs.PickedInputs.{PickedInputs, input_at}
 use Rattle.pick.specs.declared.picked_inputs.InputFile.{InputFile}
 use Rattle.pick.proofs.ApartChoices.{apart_is_closed, is_there}
 use Rattle.pick.proofs.Lists.{IsIn, all_from, all_in, any_from, any_gives, filter_same, in_either, in_filter, same_test}
-use Rattle.pick.proofs.PartRanges.{all_ranges}
+use Rattle.pick.proofs.Widened.{all_ranges}
 use Rattle.pick.proofs.VersionFiles.{are_level_files}
 use Rattle.reads.proofs.Apart.{AreTwoMetas, metas_apart, one_number}
 use Rattle.reads.proofs.Levels.{from_level}
@@ -38,15 +38,10 @@ use Rattle.compact.proofs.Closing.{in_files_from}
 use Rattle.store.specs.Choice.{IsChosen, part_of_number}
 use Rattle.store.specs.declared.choice.Choice.TheVariants.{Part}
 use Rattle.store.proofs.InputsApart.{AreTwoInputs}
+use Rattle.store.proofs.Flow.{no_refusal, refusal}
 
-abbrev done : PickedInputs → Result PickedInputs Fault
+abbrev pub done : PickedInputs → Result PickedInputs Fault
 done p = Ok p
-
-abbrev refusal : {Y : Type 0} → Fault → Result Y Fault
-refusal e = Err e
-
-no_refusal : {Y : Type 0} (y : Y) (e : Fault) → Ok y ≡ refusal e → ⊥
-no_refusal y e h = cc
 
 pub held_in : {X : Type 0} (xs : List X) (q : X) → IsIn xs q → Contains xs q
 held_in [] q i = absurd i
@@ -108,7 +103,7 @@ part_by cmp total v level parts p h at = by (part_key cmp v level) told.by_key
         let x = from_map (part_inputs cmp v level key) are.parts p (subst (λ (l : List PickedInputs). Contains l p) are.these at) in
         record {
           low = told.low;
-          ranges = all_ranges cmp total v level (both_files cmp v level) told.ranges;
+          ranges = all_ranges cmp total (both_files cmp v level) told.ranges;
           test = x.source;
           apart = tests_apart cmp v level [] (level_files cmp v level) are.parts are.are_parts x.source (is_there are.parts x.source x.there);
           key = key;

@@ -1,5 +1,5 @@
 -- No refusal of a choice of inputs is Device.
-use Rattle.std.proofs.Common.{◌≡◌, ◌≢◌, ℕ, zero, suc, Bool, true, false, nat_lt, List, [], ◌∷◌, Some, None, Option, Result, Ok, Err, refl, sym, ap, subst, ◌∙◌}
+use Rattle.std.proofs.Common.{◌≡◌, ◌≢◌, ℕ, zero, suc, Bool, true, false, nat_lt, List, [], ◌∷◌, Some, None, Option, Ok, Err, refl, sym, ap, subst, ◌∙◌}
 use Rattle.std.specs.Prelude.{MatchBool, slice_get}
 use Rattle.std.specs.Option.{ok_or}
 use Rattle.std.specs.declared.cmp.Ordering.{Ordering}
@@ -16,12 +16,7 @@ use Rattle.store.specs.InputsCompaction.{IsChoiceAnswer}
 use Rattle.store.specs.declared.choice.Choice.{Choice}
 use Rattle.store.specs.declared.choice.Choice.TheVariants.{Part, Picked}
 use Rattle.store.proofs.NoDevice.{inputs_answer_other, orderly_other}
-
-abbrev refusal : {Y : Type 0} → Fault → Result Y Fault
-refusal e = Err e
-
-same_refusal : {Y : Type 0} (e d : Fault) → refusal {Y = Y} e ≡ refusal d → e ≡ d
-same_refusal e d h = cc
+use Rattle.store.proofs.Flow.{same_refusal, refusal}
 
 named : {Y : Type 0} (e : Fault) (n : FaultName) → n ≢ Device → refusal {Y = Y} e ≡ refusal (fault n) → e.name ≢ Device
 named {Y = Y} e n other h = λ same. other (sym (ap (λ (f : Fault). f.name) (same_refusal {Y = Y} e (fault n) h)) ∙ same)

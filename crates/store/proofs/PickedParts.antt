@@ -21,7 +21,8 @@ use Rattle.store.specs.FolderRequest.{compaction_from}
 use Rattle.store.specs.InputsCompaction.{IsReadAnswer, input_numbers, input_tables}
 use Rattle.store.specs.PickedOutcome.{IsPickedCompacted}
 use Rattle.store.specs.Step.{with_inputs}
-use Rattle.store.proofs.Flow.{never_device}
+use Rattle.store.proofs.Flow.{never_device, refusal}
+use Rattle.store.proofs.ChosenInputs.{value}
 
 -- an answer of tables that are held is one of a folder
 pub held_answers : {X Y : Type 0} (view : X → Y) (before now : ℕ) (r : Result X Fault) (IsOne IsOther : Result Y Fault → Type 0) → ((a : Result Y Fault) → IsOne a → IsOther a) → HoldsOrMemory view r IsOne → FolderAnswers view before now r IsOther
@@ -32,12 +33,6 @@ held_answers view before now (Err e) IsOne IsOther f given = unless_from e (IsOn
 pub never_answered : {X Y : Type 0} (before now : ℕ) (view : X → Y) (r : Result X Fault) (IsOne : Result Y Fault → Type 0) → ((e : Fault) → IsOne (Err e) → e.name ≢ Device) → HoldsOrMemory view r IsOne → IfErr r (HasDeviceFailed before now)
 never_answered before now view (Ok x) IsOne f given = tt
 never_answered before now view (Err e) IsOne f given = never_device before now e (IsOne (Err e)) (f e) given
-
-abbrev refusal : {Y : Type 0} → Fault → Result Y Fault
-refusal e = Err e
-
-abbrev value : PickedInputs × Answer → Result (PickedInputs × Answer) Fault
-value x = Ok x
 
 no_error : (x : PickedInputs × Answer) (e : Fault) → value x ≡ refusal e → ⊥
 no_error x e h = cc h

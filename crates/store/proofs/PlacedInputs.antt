@@ -43,6 +43,7 @@ use Rattle.store.proofs.InputNumbers.{none_missing, number_among, one_table, sam
 use Rattle.store.proofs.Loaded.{bytes_found, found_loaded}
 use Rattle.store.proofs.OrderlyFiles.{orderly}
 use Rattle.store.proofs.PartFiles.{ArePlaced}
+use Rattle.store.proofs.Flow.{no_refusal}
 
 -- what is asked with these bytes of the inputs
 abbrev request_with : ℕ → State → PickedInputs → Settings → List (List ℕ) → RequestView
@@ -63,12 +64,6 @@ answer_with first cmp short_keys v p s given =
     test_result (nat_le 1 s.ranges && nat_le s.ranges 4096) SplitCount >>= λ _.
     (ok_or (first_output v first) (fault Numbers) >>= λ number. Ok (request_with number v p s given)) >>= λ r.
     compaction_result cmp short_keys s.workers r
-
-abbrev refusal : {Y : Type 0} → Fault → Result Y Fault
-refusal e = Err e
-
-no_refusal : {Y : Type 0} (y : Y) (e : Fault) → Ok y ≡ refusal e → ⊥
-no_refusal y e h = cc
 
 module _ (cmp : List ℕ → List ℕ → Ordering) (total : IsTotalOrder cmp) (files : Files) (v : State) (loaded : List (ℕ × List ℕ)) (tables : List NumberedContents)
     (held : IsLoaded (IsFileIn files) (file_numbers cmp v) (Ok loaded)) (sound : IsLawfulTables cmp v loaded (Ok tables)) where

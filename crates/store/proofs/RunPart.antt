@@ -1,5 +1,5 @@
 -- The calls of a compaction, as a part of those of the call.
-use Rattle.std.proofs.Common.{◌≡◌, ◌⊎◌, ℕ, List, ◌++◌, map, codes, Option, Some, Result, Ok, Err, IfErr, IsErrAnd, OnOk, refl, sym, ap, subst, ◌∙◌, inl, inr}
+use Rattle.std.proofs.Common.{◌≡◌, ◌⊎◌, ℕ, List, ◌++◌, map, codes, Some, Result, Ok, Err, IfErr, IsErrAnd, OnOk, refl, sym, ap, subst, ◌∙◌, inl, inr}
 use Rattle.std.specs.declared.cmp.Ordering.{Ordering}
 use Rattle.table.specs.Key.{IsInternalKey}
 use Rattle.table.specs.TableBytes.{AreBytes}
@@ -10,7 +10,7 @@ use Rattle.folder.specs.fault.FaultName.TheVariants.{Changed, Device}
 use Rattle.folder.specs.Comparator.{ShortKeys}
 use Rattle.folder.specs.Version.{State}
 use Rattle.folder.proofs.LoadingLemmas.{loaded_before, told_since}
-use Rattle.folder.specs.Calls.{Call, Done, Files, Step, Tells}
+use Rattle.folder.specs.Calls.{Call, Done, Files, Step, Tells, ToldFiles as Told}
 use Rattle.folder.specs.CallSequence.{MakesCalls, TellsThrough}
 use Rattle.folder.specs.Folder.{TellsSame}
 use Rattle.folder.specs.Names.{current_text}
@@ -27,16 +27,14 @@ use Rattle.compact.specs.declared.settings.Settings.{Settings}
 use Rattle.store.specs.Compaction.{IsSynced}
 use Rattle.store.specs.FolderRequest.{manifest_of}
 use Rattle.store.specs.InputsCompaction.{input_numbers}
-use Rattle.store.specs.Runs.{IsAnswerForLevel, IsAnswerInstalled, IsFolderRun, IsLevelRun, IsRun}
+use Rattle.store.specs.FoundInputs.{IsRun}
+use Rattle.store.specs.Runs.{IsAnswerForLevel, IsAnswerInstalled, IsFolderRun, IsLevelRun}
 use Rattle.store.specs.Step.{step_in, step_of}
 use Rattle.store.specs.VersionSync.{sync_calls}
 use Rattle.store.specs.declared.compaction_step.CompactionStep.{CompactionStep}
 use Rattle.store.proofs.InstallPart.{all_made, refused_ok, still}
 use Rattle.store.proofs.SyncsTold.{syncs_tell}
 use Rattle.install.proofs.Changes.{change_by}
-
-abbrev Told : Type 1
-Told = List ℕ → Option (List ℕ) → Type 0
 
 -- ---- calls of an installation
 
@@ -199,9 +197,7 @@ pub sync_stopped : {T F : Type 0} (g : Ghosts F) (first last : F) (order : Order
     → MakesCalls (sync_calls (order_cmp order) v manifest) before (g.calls last) old (g.tells last) r → OnOk q ⊥ → IsFolderRun g level s first last q
 sync_stopped g first last order v manifest level s before old r q opened named is same runs refused =
     inr (record {
-      order = order;
-      version = v;
-      manifest = manifest;
+      now = record { order = order; version = v; manifest = manifest };
       opened = opened;
       named = named;
       runs = inl (synced_only order v manifest (g.calls first) before (g.calls last) (g.calls last) (g.tells first) old (g.tells last) (g.tells last) r q is same runs refl (λ name held. ((λ x. x), (λ x. x))) refused);
@@ -221,17 +217,11 @@ synced_run g first at last order v manifest level s before old r x q opened name
     let since : synced ≡ g.calls first ++ map Done calls = runs.appended ∙ (ap (λ (t : List Step). t ++ runs.steps) is ∙ ap (λ (t : List Step). g.calls first ++ t) all) in
     let through : TellsThrough (map Done calls) old middle = subst (λ (t : List Step). TellsThrough t old middle) all runs.change in
     inr (record {
-      order = order;
-      version = v;
-      manifest = manifest;
+      now = record { order = order; version = v; manifest = manifest };
       opened = opened;
       named = named;
       runs = elim run [
         | inl u ↦ inl (synced_only order v manifest (g.calls first) before synced (g.calls last) zero old middle (g.tells last) r q is same runs u.calls u.same u.refused)
-        | inr i ↦ inr (record {
-          at = at;
-          synced = record { calls = since; change = λ w tells. through w (still zero old same w.files tells) };
-          installed = i;
-        })
+        | inr i ↦ inr (at, record { calls = since; change = λ w tells. through w (still zero old same w.files tells) }, i)
       ];
     })

@@ -33,7 +33,7 @@ use Rattle.store.specs.StepLeft.{IsStepInstalled, IsVersionLeft, PassesTest}
 use Rattle.checks.specs.TestedTables.{IsTested, totals_of}
 use Rattle.checks.specs.declared.version_totals.VersionTotals.{VersionTotals}
 use Rattle.store.specs.declared.compaction_step.CompactionStep.{CompactionStep}
-use Rattle.store.proofs.Flow.{loaded_in, no_refusal, told_themselves}
+use Rattle.store.proofs.Flow.{loaded_in, no_refusal, told_themselves, same_refusal}
 use Rattle.store.proofs.InputNumbers.{one_table}
 use Rattle.store.proofs.InstallPart.{Promises, all_made, step_told, still, survives_on}
 use Rattle.install.specs.FolderChange.{FolderChange}
@@ -90,11 +90,13 @@ step_installed name order cmp short_keys v loaded level s picked answer first be
       picked = picked;
       answer = answer;
       compacted = done;
-      survives = subst (λ (b : List Step). SurvivesCrash cmp order (version_with v loaded) (version_with next tables') (change_by b after zero new) q) same
-          (survives_on cmp order v next loaded tables' before after zero old new r q f (still zero old told) (promises order next loaded is done.edited.edited));
-      named = named;
-      step = step;
-      refused = refused;
+      installed = record {
+        survives = subst (λ (b : List Step). SurvivesCrash cmp order (version_with v loaded) (version_with next tables') (change_by b after zero new) q) same
+            (survives_on cmp order v next loaded tables' before after zero old new r q f (still zero old told) (promises order next loaded is done.edited.edited));
+        named = named;
+        is_step = step;
+        refused = refused;
+      };
     })
 
 -- a step of a version with these tables, told from earlier calls on that only read
@@ -143,12 +145,6 @@ pub record HasPassed (cmp : List ℕ → List ℕ → Ordering) (files : Files) 
   pub held : IsLoaded (IsFileIn files) (file_numbers cmp v) (Ok loaded)
   pub tables : List NumberedContents
   pub sound : IsLawfulTables cmp v loaded (Ok tables)
-
-abbrev refusal : {Y : Type 0} → Fault → Result Y Fault
-refusal e = Err e
-
-same_refusal : {Y : Type 0} (e d : Fault) → refusal {Y = Y} e ≡ refusal d → e ≡ d
-same_refusal e d h = cc
 
 pub has_passed : (cmp : List ℕ → List ℕ → Ordering) (tells : List ℕ → Option (List ℕ) → Type 0) (files : Files) (v : State) (tested : VersionTotals) → Tells tells files → IsTested tells cmp v (Ok tested) → HasPassed cmp files v
 has_passed cmp tells files v tested told (Err e, (l, is)) = absurd (no_refusal tested e is)

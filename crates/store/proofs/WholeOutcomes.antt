@@ -13,15 +13,13 @@ use Rattle.install.proofs.Moments.{leads_split, made_by, moment_made}
 use Rattle.compact.specs.OneThread.{Answer}
 use Rattle.store.specs.Outcome.{edit_calls, naming_calls, outcome_calls}
 use Rattle.store.specs.WholeOutcome.{AreNamedApart, AreThere, HasNoEdit, IsAbsentOrWhole, IsNameOfNone, IsWhole}
+use Rattle.install.proofs.Switch.{at}
 
 abbrev EDIT : List ℕ
 EDIT = codes "EDIT"
 
 abbrev UNFINISHED : List ℕ
 UNFINISHED = codes "EDIT.dbtmp"
-
-at : {A : Type 0} (f g : List ℕ → A) (name : List ℕ) → f ≡ g → f name ≡ g name
-at f g name e = ap (λ h. h name) e
 
 unfinished_no_edit : EDIT ≢ UNFINISHED
 unfinished_no_edit = ends_apart EDIT UNFINISHED 84 112 refl refl (λ e. omega (arith, e))

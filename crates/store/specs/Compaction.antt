@@ -14,15 +14,24 @@ use Rattle.reads.specs.Tables.{NumberedContents}
 use Rattle.compact.specs.Readable.{is_read, readable_of}
 use Rattle.checks.specs.LawfulTables.{IsLawfulTables}
 use Rattle.compact.specs.OneThread.{Answer}
-use Rattle.install.specs.Install.{IsEditedBy, AlwaysStandsAs, next_version_tables}
+use Rattle.install.specs.Install.{AlwaysStandsAs, IsEditedBy, LoadedVersion, next_with}
 use Rattle.store.specs.FolderRequest.{last_of, manifest_of}
 use Rattle.compact.specs.declared.settings.Settings.{Settings}
 use Rattle.folder.specs.Comparator.{KeyOrder}
 use Rattle.install.specs.FolderChange.{FolderChange}
 
+-- A version with the bytes of its tables answers as another one does: it is lawful, and each get at
+-- a sequence that was to stay readable answers as there.
+pub record AnswersAs (cmp : KeyOrder) (s : Settings) (v : State) (tables : List NumberedContents)
+    (next : LoadedVersion) : Type 0 where
+  pub tables_next : List NumberedContents
+  pub lawful : IsLawfulTables cmp next.version next.tables (Ok tables_next)
+  pub gets : (user : List ℕ) (at : ℕ) → is_read (readable_of s.snapshots (last_of v)) at ≡ true →
+      get_of next.version tables_next user at ≡ get_of v tables user at
+
 -- The edited version of a compaction's answer: the answer's edit makes it of the version, by a
 -- manifest whose number is next file. Last sequence stays, and next file rises. With the tables
--- that an installation leaves it is lawful, and each get at a readable sequence answers as before.
+-- that an installation leaves it answers as the version before.
 pub record EditedVersion (cmp : KeyOrder) (v : State) (loaded : List (ℕ × List ℕ))
     (tables : List NumberedContents) (s : Settings) (answer : Answer) : Type 0 where
   pub next : State
@@ -31,11 +40,7 @@ pub record EditedVersion (cmp : KeyOrder) (v : State) (loaded : List (ℕ × Lis
   pub some : 0 < manifest_of v
   pub rises : manifest_of v < manifest_of next
   pub small : manifest_of next < 2 ^ 64
-  pub tables_next : List NumberedContents
-  pub lawful : IsLawfulTables cmp next (next_version_tables cmp next answer.tables loaded)
-      (Ok tables_next)
-  pub gets : (user : List ℕ) (at : ℕ) → is_read (readable_of s.snapshots (last_of v)) at ≡ true →
-      get_of next tables_next user at ≡ get_of v tables user at
+  pub answers : AnswersAs cmp s v tables (next_with cmp next answer.tables loaded)
 
 -- No call that writes was made, and the folder holds what it held.
 pub record IsUnchanged {T : Type 0} (change : FolderChange) (result : Result T Fault)

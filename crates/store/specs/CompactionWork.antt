@@ -12,7 +12,7 @@ use Rattle.install.specs.Installation.{ReadsEither, place_with}
 use Rattle.install.specs.Naming.{IsNamedEdit, tables_of}
 use Rattle.install.specs.ReadsOf.{NamedVersion, Stands}
 use Rattle.store.specs.Runs.{AreInstallCalls, HasMade}
-use Rattle.store.specs.VersionSync.{AlwaysReadsBy, sync_calls}
+use Rattle.store.specs.VersionSync.{AlwaysReadsBy, syncs_of}
 use Rattle.store.specs.declared.compaction_step.CompactionStep.{CompactionStep}
 
 -- If the folder stands for a version, a crash at any moment of the calls that install an answer
@@ -31,6 +31,6 @@ CompactionsSurvive {F = F} g = (v next : NamedVersion) (answer : Answer) (old ne
 abbrev pub SyncsStand : {F : Type 0} → Ghosts F → Type 0
 SyncsStand {F = F} g = (v : NamedVersion) (first at : F) (tables : List (ℕ × List ℕ))
     (start : World) →
-    HasMade g first (map Done (sync_calls (order_cmp v.order) v.version v.manifest)) at →
+    HasMade g first (map Done (syncs_of v)) at →
     AlwaysReadsBy (order_cmp v.order) v.order v.version v.manifest tables start (g.calls first) →
     Stands v tables start (g.calls at)

@@ -57,8 +57,3 @@ compaction_from first cmp short_keys v loaded p s = do
   _ ← test_result (nat_le 1 s.ranges && nat_le s.ranges MAX_RANGES) SplitCount
   r ← numbered_request first v loaded p s
   compaction_result cmp short_keys s.workers r
-
--- the same with the numbers after the manifest's
-abbrev pub compaction_of : KeyOrder → ShortKeys → State → List (ℕ × List ℕ) → PickedInputs →
-    Settings → Result Answer Fault
-compaction_of cmp short_keys v loaded p s = compaction_from None cmp short_keys v loaded p s

@@ -9,9 +9,10 @@ use Rattle.pick.specs.PickedInputs.{IsInputsAnswer, PickedInputs}
 use Rattle.reads.specs.TableContents.{Contents}
 use Rattle.compact.specs.OneThread.{Answer}
 use Rattle.compact.specs.declared.settings.Settings.{Settings}
-use Rattle.store.specs.FolderRequest.{compaction_of}
+use Rattle.store.specs.FolderRequest.{compaction_from}
 use Rattle.store.specs.InputsCompaction.{input_tables}
 use Rattle.store.specs.Compaction.{IsUnchanged}
+use Rattle.store.specs.Runs.{IsAnswerInstalled}
 use Rattle.store.specs.Step.{StepView, step_of}
 use Rattle.store.specs.StepLeft.{IsStepInstalled}
 use Rattle.store.specs.declared.compaction_step.CompactionStep.{CompactionStep}
@@ -44,7 +45,7 @@ pub record IsAnswerForInputs (cmp : KeyOrder) (short_keys : ShortKeys) (v : Stat
     : Type 0 where
   pub contents : List Contents
   pub stated : input_tables cmp p.files loaded ≡ Ok contents
-  pub answered : compaction_of cmp short_keys v loaded p s ≡ Ok answer
+  pub answered : compaction_from None cmp short_keys v loaded p s ≡ Ok answer
 
 -- these are those inputs, and it is the value of this answer
 abbrev pub IsAnsweredBy : PickedInputs → Result Answer Fault → PickedInputs → Answer → Type 0
@@ -54,6 +55,12 @@ IsAnsweredBy given answered p answer = (p ≡ given) × (answered ≡ Ok answer)
 abbrev pub IsAnswerForThese : (PickedInputs → Answer → Type 0) → PickedInputs → PickedInputs →
     Answer → Type 0
 IsAnswerForThese IsAnswer given p answer = (p ≡ given) × IsAnswer p answer
+
+-- no call that writes was made; or an answer like this was installed
+abbrev pub IsRun : (PickedInputs → Answer → Type 0) → List ℕ → KeyOrder → State → FolderChange →
+    Result CompactionStep Fault → Type 0
+IsRun IsAnswer name cmp v change result = IsUnchanged change result
+    ⊎ IsAnswerInstalled IsAnswer name cmp v change result
 
 -- what is left of a folder that reads as this version with these tables
 abbrev pub IsStepLeft : OrderView → LoadedVersion → ℕ → Settings → FolderChange →

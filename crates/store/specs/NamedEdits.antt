@@ -12,7 +12,7 @@ use Rattle.install.specs.Install.{current_calls, manifest_bytes, manifest_calls}
 use Rattle.install.specs.InstallCalls.{IsInstallCalls}
 use Rattle.store.specs.Compaction.{IsUnchanged}
 use Rattle.store.specs.FolderRequest.{manifest_of}
-use Rattle.store.specs.Step.{step_in}
+use Rattle.store.specs.Step.{step_by, step_in}
 use Rattle.store.specs.declared.compaction_step.CompactionStep.{CompactionStep}
 use Rattle.store.specs.declared.named_edits.WrittenTables.{WrittenTables}
 
@@ -36,12 +36,7 @@ pub record AreNamed {F : Type 0} (g : Ghosts F) (name : List ℕ) (cmp : KeyOrde
   pub calls : IsInstallCalls g
       (manifest_calls (manifest_of v) (manifest_bytes name cmp v (edit_bytes edit)))
       (current_calls (manifest_of v)) opened old new result
-  pub step : IfOk result (λ step. step_in step ≡ record {
-    outputs = w.outputs.items;
-    deleted = edit.deleted;
-    manifest = manifest_of v;
-    edit = edit_bytes edit;
-  })
+  pub step : IfOk result (λ step. step_in step ≡ step_by v w.outputs.items edit)
 
 abbrev pub IsNaming : {F : Type 0} → Ghosts F → List ℕ → KeyOrder → State → ℕ → WrittenTables →
     F → F → Result CompactionStep Fault → Type 0

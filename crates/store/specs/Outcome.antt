@@ -36,19 +36,13 @@ pub record OutcomeView : Type 0 where
 
 -- the outcome that the code holds
 abbrev pub outcome_in : CompactionOutcome → OutcomeView
-outcome_in o = record {
-  outputs = o.outputs.items;
-  deleted = o.deleted.keys;
-  answer = answer_in o.outcome;
-}
+outcome_in o =
+    record { outputs = o.outputs.items; deleted = o.deleted.keys; answer = answer_in o.outcome }
 
 -- the outcome of an answer for these inputs
 abbrev pub outcome_of : PickedInputs → Answer → OutcomeView
-outcome_of p answer = record {
-  outputs = table_sizes answer.tables;
-  deleted = deletions_of p.files;
-  answer = answer;
-}
+outcome_of p answer =
+    record { outputs = table_sizes answer.tables; deleted = deletions_of p.files; answer = answer }
 
 -- what the test of a version answers, if one is asked for with a number of bytes to hold
 abbrev pub IsTestAnswer : Option ℕ → Files → KeyOrder → State → Result (Unit {0}) Fault → Type 0

@@ -25,9 +25,10 @@ use Rattle.store.specs.Compaction.{IsSynced, IsUnchanged}
 use Rattle.store.specs.FolderRequest.{manifest_of}
 use Rattle.store.specs.PickedOutcome.{IsPickedCompacted}
 use Rattle.store.specs.Step.{step_in, step_of}
-use Rattle.store.specs.VersionSync.{sync_calls}
+use Rattle.store.specs.VersionSync.{syncs_of}
 use Rattle.store.specs.declared.compaction_step.CompactionStep.{CompactionStep}
 use Rattle.install.specs.FolderChange.{FolderChange, change_of}
+use Rattle.install.specs.ReadsOf.{NamedVersion}
 
 -- The calls of the installation of an answer, up to one that fails. Its tables are written in
 -- groups; the manifest has the version and the answer's edit. At Changed all calls before the
@@ -58,12 +59,6 @@ pub record IsAnswerInstalled (IsAnswer : PickedInputs → Answer → Type 0) (na
   pub refused : IfErr result
       (λ e. UnlessMemory e ((e ≡ fault Device) ⊎ (e ≡ fault Changed)))
 
--- no call that writes was made; or an answer like this was installed
-abbrev pub IsRun : (PickedInputs → Answer → Type 0) → List ℕ → KeyOrder → State → FolderChange →
-    Result CompactionStep Fault → Type 0
-IsRun IsAnswer name cmp v change result = IsUnchanged change result
-    ⊎ IsAnswerInstalled IsAnswer name cmp v change result
-
 -- What one thread answers for the inputs that are picked of a level, with tables that reads of the
 -- folder may give.
 abbrev pub IsAnswerForLevel : KeyOrder → ShortKeys → ToldFiles → State → ℕ → Settings →
@@ -71,13 +66,19 @@ abbrev pub IsAnswerForLevel : KeyOrder → ShortKeys → ToldFiles → State →
 IsAnswerForLevel cmp short_keys told v level s picked answer = IsPicked cmp v level picked
     × IsPickedCompacted None cmp short_keys told v s picked answer
 
--- No call that writes was made; or one thread's answer for a level of this version was installed.
--- Its tables are those that the folder told at first.
+-- One thread's answer for a level of this version was installed. Its tables are those that the
+-- folder told at first.
+abbrev pub IsLevelCompacted : Order → State → ℕ → Settings → FolderChange →
+    Result CompactionStep Fault → Type 0
+IsLevelCompacted order v level s change result = IsAnswerInstalled
+    (IsAnswerForLevel (order_cmp order) (order_short_keys order) change.old v level s)
+    (order_name order) (order_cmp order) v change result
+
+-- no call that writes was made; or such an answer was installed
 abbrev pub IsLevelRun : Order → State → ℕ → Settings → FolderChange →
     Result CompactionStep Fault → Type 0
-IsLevelRun order v level s change result =
-    IsRun (IsAnswerForLevel (order_cmp order) (order_short_keys order) change.old v level s)
-    (order_name order) (order_cmp order) v change result
+IsLevelRun order v level s change result = IsUnchanged change result
+    ⊎ IsLevelCompacted order v level s change result
 
 -- From the first folder on, just these calls that write were made up to this one.
 pub record HasMade {F : Type 0} (g : Ghosts F) (first : F) (steps : List Step) (at : F)
@@ -85,31 +86,18 @@ pub record HasMade {F : Type 0} (g : Ghosts F) (first : F) (steps : List Step) (
   pub calls : g.calls at ≡ g.calls first ++ steps
   pub change : TellsThrough steps (g.tells first) (g.tells at)
 
--- All syncs of a version were made, and after them one thread's answer for a level was installed.
--- Its tables are those that the folder told after the syncs.
-pub record IsSyncedRun {F : Type 0} (g : Ghosts F) (order : Order) (v : State) (syncs : List Step)
-    (level : ℕ) (s : Settings) (first last : F) (result : Result CompactionStep Fault)
-    : Type 0 where
-  pub at : F
-  pub synced : HasMade g first syncs at
-  pub installed : IsAnswerInstalled
-      (IsAnswerForLevel (order_cmp order) (order_short_keys order) (g.tells at) v level s)
-      (order_name order) (order_cmp order) v (change_of g at last) result
-
 -- A version was opened by the manifest of a number, as the bytes say that were read. Then the
 -- syncs of it were made, up to one that failed, and no other call that writes. Or all of them were
--- made, and after them one thread's answer for a level was installed.
+-- made, and after them one thread's answer for a level was installed. Its tables are those that the
+-- folder told after the syncs.
 pub record IsOpenedRun {F : Type 0} (g : Ghosts F) (level : ℕ) (s : Settings) (first last : F)
     (result : Result CompactionStep Fault) : Type 0 where
-  pub order : Order
-  pub version : State
-  pub manifest : ℕ
-  pub opened : IsOpened (g.tells first) (Ok (order, version))
-  pub named : g.tells first (codes "CURRENT") (Some (current_text manifest))
-  pub runs : IsSynced (sync_calls (order_cmp order) version manifest) (change_of g first last)
-      result
-      ⊎ IsSyncedRun g order version (map Done (sync_calls (order_cmp order) version manifest))
-      level s first last result
+  pub now : NamedVersion
+  pub opened : IsOpened (g.tells first) (Ok (now.order, now.version))
+  pub named : g.tells first (codes "CURRENT") (Some (current_text now.manifest))
+  pub runs : IsSynced (syncs_of now) (change_of g first last) result
+      ⊎ ((at : F) × HasMade g first (map Done (syncs_of now)) at
+      × IsLevelCompacted now.order now.version level s (change_of g at last) result)
 
 -- no call that writes was made; or a version was opened, and this is what followed
 abbrev pub IsFolderRun : {F : Type 0} → Ghosts F → ℕ → Settings → F → F →

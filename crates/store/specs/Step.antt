@@ -2,6 +2,7 @@
 use Rattle.std.specs.Prelude.{◌≡◌, ℕ, List, Result, Ok}
 use Rattle.folder.specs.Answers.{IsThen, ◌>>=◌}
 use Rattle.folder.specs.fault.Fault.{Fault}
+use Rattle.folder.specs.Edit.{Edit, edit_bytes}
 use Rattle.folder.specs.Version.{State}
 use Rattle.folder.specs.meta.DeletedFile.{DeletedFile}
 use Rattle.pick.specs.PickedInputs.{PickedInputs}
@@ -37,6 +38,11 @@ step_of v p answer = record {
   manifest = manifest_of v;
   edit = answer.edit;
 }
+
+-- the step of these outputs and of an edit of a version that adds them
+abbrev pub step_by : State → List (ℕ × ℕ) → Edit → StepView
+step_by v outputs e =
+    record { outputs = outputs; deleted = e.deleted; manifest = manifest_of v; edit = edit_bytes e }
 
 -- an answer with the inputs for which it is, or the refusal
 abbrev pub with_inputs : PickedInputs → Result Answer Fault → Result (PickedInputs × Answer) Fault

@@ -12,20 +12,20 @@ use Rattle.folder.specs.Names.{current_text}
 use Rattle.folder.specs.OpenAnswer.{IsOpened}
 use Rattle.folder.specs.Orders.{order_cmp}
 use Rattle.folder.specs.ReadsAs.{IsFileIn, ReadsAs}
-use Rattle.folder.specs.declared.order.Order.{Order}
 use Rattle.checks.specs.TestedTables.{IsTested}
 use Rattle.checks.specs.declared.version_totals.VersionTotals.{VersionTotals}
 use Rattle.pick.specs.PickedInputs.{IsInputsAnswer, PickedInputs}
 use Rattle.compact.specs.OneThread.{Answer}
-use Rattle.install.specs.Install.{AlwaysStandsAs, LoadedVersion, SurvivesCrash, next_version_tables}
+use Rattle.install.specs.Install.{AlwaysStandsAs, LoadedVersion, SurvivesCrash, next_with}
 use Rattle.install.specs.Install.{version_with}
 use Rattle.compact.specs.declared.settings.Settings.{Settings}
 use Rattle.store.specs.Compaction.{IsSynced, IsUnchanged}
 use Rattle.store.specs.FolderRequest.{manifest_of}
-use Rattle.store.specs.Step.{step_in, step_of}
-use Rattle.store.specs.VersionSync.{AlwaysReadsBy, sync_calls}
+use Rattle.store.specs.Step.{StepView, step_in, step_of}
+use Rattle.store.specs.VersionSync.{AlwaysReadsBy, syncs_of}
 use Rattle.store.specs.declared.compaction_step.CompactionStep.{CompactionStep}
 use Rattle.install.specs.FolderChange.{FolderChange, change_since}
+use Rattle.install.specs.ReadsOf.{NamedVersion}
 use Rattle.store.specs.OrderView.{OrderView, order_view}
 use Rattle.store.specs.Outcome.{ChosenCompaction}
 
@@ -33,20 +33,26 @@ use Rattle.store.specs.Outcome.{ChosenCompaction}
 abbrev pub PassesTest : Files → KeyOrder → State → Type 0
 PassesTest files cmp v = (totals : VersionTotals) × IsTested (IsFileIn files) cmp v (Ok totals)
 
--- A compaction of the version was installed, from these calls on. A crash at any moment leaves the
--- version before or the edited one. At Ok it is the edited one, CURRENT names its manifest, and the
--- step is that of the answer. The only faults are Device and Memory.
+-- A next version was installed by one manifest, from these calls on. A crash at any moment leaves
+-- the version before or the next one. At Ok it is the next one, CURRENT names its manifest, and
+-- this is the step. The only faults are Device and Memory.
+pub record IsInstalled (by : OrderView) (v next : LoadedVersion) (step : StepView)
+    (change : FolderChange) (result : Result CompactionStep Fault) : Type 0 where
+  pub survives : SurvivesCrash by.cmp by.order v next change result
+  pub named : OnOk result
+      (change.new (codes "CURRENT") (Some (current_text (manifest_of v.version))))
+  pub is_step : IfOk result (λ made. step_in made ≡ step)
+  pub refused : IfErr result (λ e. UnlessMemory e (e ≡ fault Device))
+
+-- a compaction of the version was installed, with the step of its answer
 pub record IsStepInstalled (by : OrderView) (v : LoadedVersion) (level : ℕ) (s : Settings)
     (change : FolderChange) (result : Result CompactionStep Fault) : Type 0 where
   pub picked : PickedInputs
   pub answer : Answer
   pub compacted : ChosenCompaction by v (IsInputsAnswer by.cmp v.version level) None s picked answer
-  pub survives : SurvivesCrash by.cmp by.order v (version_with compacted.edited.next
-      (next_version_tables by.cmp compacted.edited.next answer.tables v.tables)) change result
-  pub named : OnOk result
-      (change.new (codes "CURRENT") (Some (current_text (manifest_of v.version))))
-  pub step : IfOk result (λ step. step_in step ≡ step_of v.version picked answer)
-  pub refused : IfErr result (λ e. UnlessMemory e (e ≡ fault Device))
+  pub installed : IsInstalled by v
+      (next_with by.cmp compacted.edited.next answer.tables v.tables)
+      (step_of v.version picked answer) change result
 
 -- what is left of a folder of these files, which read as this version: it is unchanged, or a
 -- compaction was installed
@@ -61,19 +67,17 @@ IsVersionLeft by v files level s change result = IsUnchanged change result
 -- If the folder reads as the version, whatever was synced before, it stands for it after that sync.
 pub record IsOpenedLeft (files : Files) (level : ℕ) (s : Settings) (change : FolderChange)
     (result : Result CompactionStep Fault) : Type 0 where
-  pub order : Order
-  pub version : State
-  pub manifest : ℕ
-  pub opened : IsOpened (IsFileIn files) (Ok (order, version))
-  pub named : files (codes "CURRENT") ≡ Some (current_text manifest)
-  pub left : IsSynced (sync_calls (order_cmp order) version manifest) change result
-      ⊎ ((loaded : List (ℕ × List ℕ)) × ReadsAs (order_cmp order) order version loaded files
-      × IsStepInstalled (order_view order) (version_with version loaded) level s
-      (change_since (map Done (sync_calls (order_cmp order) version manifest)) change) result)
+  pub now : NamedVersion
+  pub opened : IsOpened (IsFileIn files) (Ok (now.order, now.version))
+  pub named : files (codes "CURRENT") ≡ Some (current_text now.manifest)
+  pub left : IsSynced (syncs_of now) change result ⊎ ((loaded : List (ℕ × List ℕ))
+      × ReadsAs (order_cmp now.order) now.order now.version loaded files
+      × IsStepInstalled (order_view now.order) (version_with now.version loaded) level s
+      (change_since (map Done (syncs_of now)) change) result)
   pub stands : (tables : List (ℕ × List ℕ)) (start : World) →
-      AlwaysReadsBy (order_cmp order) order version manifest tables start change.before →
-      AlwaysStandsAs (order_cmp order) order version tables start
-      (change.before ++ map Done (sync_calls (order_cmp order) version manifest))
+      AlwaysReadsBy (order_cmp now.order) now.order now.version now.manifest tables start
+      change.before → AlwaysStandsAs (order_cmp now.order) now.order now.version tables start
+      (change.before ++ map Done (syncs_of now))
 
 -- What is left of a folder that held these files: it is untouched, as if it can't be opened, or it
 -- was opened.

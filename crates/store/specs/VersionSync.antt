@@ -7,8 +7,10 @@ use Rattle.folder.specs.Calls.{Call, FolderSynced, Step, Synced}
 use Rattle.folder.specs.Crash.{Leads, World}
 use Rattle.folder.specs.Levels.{file_numbers}
 use Rattle.folder.specs.Names.{manifest_name, old_table_name, table_name}
+use Rattle.folder.specs.Orders.{order_cmp}
 use Rattle.folder.specs.ReadsAs.{ReadsBy}
 use Rattle.folder.specs.declared.order.Order.{Order}
+use Rattle.install.specs.ReadsOf.{NamedVersion}
 
 -- each table is synced under its name and under its older one
 abbrev pub table_syncs : List ℕ → List Call
@@ -22,6 +24,9 @@ abbrev pub sync_calls : KeyOrder → State → ℕ → List Call
 sync_calls cmp v manifest =
     Synced (codes "CURRENT") ∷ Synced (manifest_name manifest)
     ∷ (table_syncs (file_numbers cmp v) ++ FolderSynced ∷ [])
+
+abbrev pub syncs_of : NamedVersion → List Call
+syncs_of v = sync_calls (order_cmp v.order) v.version v.manifest
 
 -- After these calls from the start, the folder reads as the version and its tables, by this
 -- manifest. Nothing is said of what was synced.

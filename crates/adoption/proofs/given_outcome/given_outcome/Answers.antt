@@ -2,6 +2,7 @@ use Rattle.std.proofs.Common.{List, Ok, Err, ap, subst, ◌∙◌, arith, refl}
 use Rattle.edit.specs.Edit.{edit_in}
 use Rattle.folder.proofs.LoadingLemmas.{loaded_before}
 use Rattle.folder.proofs.OpeningLemmas.{hands_on, refuses}
+use Rattle.folder.proofs.ReportLemmas.{reports_handed, reports_then}
 use Rattle.folder.specs.LoadedTables.{IsLoaded}
 use Rattle.install.specs.Install.{tables_in}
 use Rattle.pick.specs.declared.picked_inputs.InputFile.{InputFile}
@@ -46,6 +47,11 @@ returns-in_err-tables-clause-answer g c =
     let loaded = subst (λ (is : List InputFile). IsLoaded (tells c.args.source.now) (input_numbers is) (Err e)) c.deref.ensures.value
     (loaded_before (tells c.args.source.now) (tells c.given_edit.new.source) numbers (Err e) c.given_edit.ensures.reads.same h) in
     (Ok edit, (c.in_ok-edit.ensures.answer, (Ok adoption, (c.in_ok-adopted.ensures.answer, (Err e, (loaded, refl)))))))
+
+pub returns-in_err-tables-clause-device : goal.returns-in_err-tables-clause-device
+returns-in_err-tables-clause-device g c =
+    reports_then c.in_ok-edit.was c.given_edit.ensures.device
+    (reports_handed c.from_residual-in_err-tables.result c.in_err-tables.was c.load_inputs.ensures.device c.from_residual-in_err-tables.ensures.1)
 
 pub returns-clause-answer : goal.returns-clause-answer
 returns-clause-answer g c =

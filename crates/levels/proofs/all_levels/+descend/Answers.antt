@@ -18,7 +18,7 @@ use Rattle.store.specs.Cleaning.{teller_by}
 use Rattle.store.specs.Descent.{IsNextLevel}
 use Rattle.store.specs.FolderRequest.{manifest_of}
 use Rattle.store.specs.declared.synced_version.SyncedVersion.{SyncedVersion}
-use Rattle.levels.proofs.Descending.{at_least_one, by_memory, clause_of, found_next, never_numbers, none_begun, one_ended, one_more, same_tells, taken_on, taken_refused, taken_stopped}
+use Rattle.levels.proofs.Descending.{at_least_one, clause_of, found_next, never_numbers, none_begun, one_ended, one_more, same_tells, taken_on, taken_refused, taken_stopped}
 use Rattle.levels.proofs.DescentRows.{last_refused, last_stopped, linked, no_more, removal_refused, removal_stopped, row_more}
 use Rattle.levels.specs.DescentLeft.{IsDescended, IsNextLevelRefused, folder_version}
 use Rattle.levels.specs.DescentRuns.{IsDescentRun}
@@ -26,6 +26,7 @@ use Rattle.levels.specs.LevelMade.{at_by, way_by}
 use Rattle.levels.specs.declared.descent_end.DescentEnd.{DescentEnd}
 use Rattle.levels.specs.declared.descent_end.DescentEnd.TheVariants.{AtBottom, Stopped}
 use Rattle.levels.proofs.all_levels.+descend.Goals as goal
+use Rattle.store.proofs.Descending.{by_memory}
 
 -- ---- what is left
 
@@ -193,7 +194,7 @@ returns-clause-left g t c files loaded tables told current reads sound enough =
     let some = at_least_one c.args.steps c.if-steps-eq0.false in
     let counted = steady (failed first) (failed mid) (failed after) c.in_ok-cleaned.field-0 c.clean.result c.in_ok-cleaned.was count c.clean.ensures.device.later c.clean.ensures.device.at_once in
     let rest = clause_of selection s c.args.course.now.bottom (c.args.steps - 1) (calls after) (calls last) (tells after) (tells last) (failed after) (failed last) c.descend.result o.order cleaned.order w cleaned.version (manifest_of o.version) cleaned.manifest
-    (again.0 ∙ goes.order_is) (again.1 ∙ goes.version_is) (again.2 ∙ goes.manifest_is) c.descend.ensures.left found.0 ts i.compacted.edited.tables_next found.1 found.2.named found.2.reads i.compacted.edited.lawful (omega (arith, rise, enough, some)) in
+    (again.0 ∙ goes.order_is) (again.1 ∙ goes.version_is) (again.2 ∙ goes.manifest_is) c.descend.ensures.left found.0 ts i.compacted.edited.answers.tables_next found.1 found.2.named found.2.reads i.compacted.edited.answers.lawful (omega (arith, rise, enough, some)) in
     one_more selection o.order s c.args.course.now.bottom o.version o.manifest loaded tables sound (calls first) (tells first) (failed first) files told (record { reads = reads; named = current }) c.in-Some.level at (calls mid) (tells mid) goes.taken.step i (calls after) (tells after) stays (calls last) (tells last) (failed after) (failed last) c.descend.result counted rest
 
 -- ---- the device

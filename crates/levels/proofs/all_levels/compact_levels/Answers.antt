@@ -11,7 +11,7 @@ use Rattle.store.proofs.NoDevice.{handed_memory}
 use Rattle.store.proofs.StepPart.{refused_err}
 use Rattle.store.specs.Cleaning.{teller_by}
 use Rattle.store.specs.Outcome.{IsTestAnswer}
-use Rattle.levels.proofs.Descending.{by_memory, descended_since, same_tells}
+use Rattle.levels.proofs.Descending.{descended_since, same_tells}
 use Rattle.levels.proofs.DescentRows.{no_more}
 use Rattle.levels.specs.DescentLeft.{folder_version}
 use Rattle.levels.specs.LevelMade.{way_by}
@@ -19,6 +19,7 @@ use Rattle.levels.specs.LevelTaken.{IsBottomBelow}
 use Rattle.levels.specs.declared.descent_end.DescentEnd.{DescentEnd}
 use Rattle.levels.specs.declared.descent_end.DescentEnd.TheVariants.{AtBottom}
 use Rattle.levels.proofs.all_levels.compact_levels.Goals as goal
+use Rattle.store.proofs.Descending.{by_memory}
 
 pub descend-requires-clause-low : goal.descend-requires-clause-low
 descend-requires-clause-low g c κs within = (subst (IsBottomBelow c.args.opened.version) c.in-Some.is c.in_ok-bottom.ensures.bottom).1
@@ -32,27 +33,28 @@ returns-in_err-bottom-clause-left g c files told current opened =
     let e = c.in_err-bottom.field-0.0 in
     let h = c.from_residual.ensures.1 in
     let why : Fault → Type 0 = λ x. IsStopped (failed c.args.folder.now) (failed c.args.folder.now) x ⊎ IsTestAnswer c.args.descent.now.test files (order_cmp o.order) o.version (Err x) in
-    inl (record {
-      unchanged = record { calls = refl; same = same_tells (g.F.Folder.tells c.args.folder.now); refused = no_value c.from_residual.result _ h };
-      same = refl;
-      reason = refused_err c.from_residual.result e (λ x. UnlessMemory x (why x)) h (by_memory e why c.in_err-bottom.ensures.memory);
-    })
+    inl (
+      record { calls = refl; same = same_tells (g.F.Folder.tells c.args.folder.now); refused = no_value c.from_residual.result _ h },
+      refl,
+      refused_err c.from_residual.result e (λ x. UnlessMemory x (why x)) h (by_memory e why c.in_err-bottom.ensures.memory),
+    )
 
 pub returns-in_default-clause-left : goal.returns-in_default-clause-left
 returns-in_default-clause-left g c files told current opened =
     let o = c.args.opened in
     let none = subst (IsBottomBelow o.version) c.in_default.is c.in_ok-bottom.ensures.bottom in
-    inr (inl (record { bottom = none.0; is_bottom = none.1; none_above = none.2; calls = refl; same = same_tells (g.F.Folder.tells c.args.folder.now); untold = refl; answer = refl }))
+    inr (inl (none.0, none.1, none.2, record { calls = refl; same = same_tells (g.F.Folder.tells c.args.folder.now); untold = refl }, refl))
 
 pub returns-in_err-test_asked-clause-left : goal.returns-in_err-test_asked-clause-left
 returns-in_err-test_asked-clause-left g c files told current opened =
     let e = c.in_err-test_asked.field-0.0 in
     let h = c.from_residual-in_err-test_asked.ensures.1 in
-    inl (record {
-      unchanged = record { calls = c.test_asked.ensures.reads.calls; same = c.test_asked.ensures.reads.same; refused = no_value c.from_residual-in_err-test_asked.result _ h };
-      same = refl;
-      reason = refused_err c.from_residual-in_err-test_asked.result e _ h (c.in_err-test_asked.ensures.answer files told);
-    })
+    let why : Fault → Type 0 = λ x. IsStopped (g.F.Folder.failed c.args.folder.now) (g.F.Folder.failed c.test_asked.new.folder) x ⊎ IsTestAnswer c.args.descent.now.test files (order_cmp c.args.opened.order) c.args.opened.version (Err x) in
+    inl (
+      record { calls = c.test_asked.ensures.reads.calls; same = c.test_asked.ensures.reads.same; refused = no_value c.from_residual-in_err-test_asked.result _ h },
+      refl,
+      refused_err c.from_residual-in_err-test_asked.result e (λ x. UnlessMemory x (why x)) h (c.in_err-test_asked.ensures.answer files told),
+    )
 
 pub returns-clause-left : goal.returns-clause-left
 returns-clause-left g c files told current opened =
@@ -92,7 +94,7 @@ returns-clause-device g c = reports_then c.in_ok-test_asked.was c.test_asked.ens
 -- ---- the calls, whatever the folder tells
 
 pub returns-in_err-bottom-clause-runs : goal.returns-in_err-bottom-clause-runs
-returns-in_err-bottom-clause-runs g c = inl (record { calls = refl; untold = refl; refused = no_value c.from_residual.result _ c.from_residual.ensures.1 })
+returns-in_err-bottom-clause-runs g c = inl (record { calls = refl; same = same_tells (g.F.Folder.tells c.args.folder.now); refused = no_value c.from_residual.result _ c.from_residual.ensures.1 }, refl)
 
 pub returns-in_default-clause-runs : goal.returns-in_default-clause-runs
 returns-in_default-clause-runs g c =
@@ -111,7 +113,7 @@ returns-in_default-clause-runs g c =
 
 pub returns-in_err-test_asked-clause-runs : goal.returns-in_err-test_asked-clause-runs
 returns-in_err-test_asked-clause-runs g c =
-    inl (record { calls = c.test_asked.ensures.reads.calls; untold = refl; refused = no_value c.from_residual-in_err-test_asked.result _ c.from_residual-in_err-test_asked.ensures.1 })
+    inl (record { calls = c.test_asked.ensures.reads.calls; same = c.test_asked.ensures.reads.same; refused = no_value c.from_residual-in_err-test_asked.result _ c.from_residual-in_err-test_asked.ensures.1 }, refl)
 
 pub returns-clause-runs : goal.returns-clause-runs
 returns-clause-runs g c = inr (c.in-Some.bottom, subst (IsBottomBelow c.args.opened.version) c.in-Some.is c.in_ok-bottom.ensures.bottom, c.test_asked.new.folder, c.test_asked.ensures.reads, c.descend.ensures.runs)

@@ -11,7 +11,7 @@ use Rattle.pick.specs.PickedInputs.{picked_in}
 use Rattle.checks.specs.LawfulTables.{IsLawfulTables}
 use Rattle.store.specs.OrderView.{order_view}
 use Rattle.store.specs.Step.{step_in}
-use Rattle.levels.specs.LevelLeft.{IsLevelLeft}
+use Rattle.levels.specs.LevelTaken.{IsLevelLeft}
 use Rattle.levels.specs.WholeAnswer.{AreSelected, IsWholeCompacted}
 use Rattle.levels.specs.WholeRuns.{IsWholeRun}
 use Rattle.levels.proofs.level_compaction.compact_chosen.Goals as goal

@@ -22,7 +22,7 @@ returns-in_default-clause-runs g c = record {
   names = None;
   listed = c.names.new.self;
   lists = subst (λ (x : Option (Vec (String Global))). g.T.CleanWatch.lists c.args.told.now (names_in x) c.names.new.self) c.in_default.is c.names.ensures;
-  removal = record { calls = refl; same = same_tells (g.F.Folder.tells c.args.folder.now); untold = refl; answer = None; stops = refl; is = refl };
+  removal = (record { calls = refl; same = same_tells (g.F.Folder.tells c.args.folder.now); untold = refl }, refl);
 }
 
 pub returns-in_default-clause-stays : goal.returns-in_default-clause-stays

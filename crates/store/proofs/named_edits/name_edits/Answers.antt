@@ -31,7 +31,7 @@ returns-in_err-install_manifest-clause-named g c =
     c.install_manifest.result c.from_residual-in_err-install_manifest.result c.in_err-install_manifest.field-0.0 c.in_err-install_manifest.was c.from_residual-in_err-install_manifest.ensures.1 calls
 
 pub returns-in_err-install_manifest-clause-device : goal.returns-in_err-install_manifest-clause-device
-returns-in_err-install_manifest-clause-device g c = reports_handed c.from_residual-in_err-install_manifest.result c.in_err-install_manifest.was c.install_manifest.ensures.device c.from_residual-in_err-install_manifest.ensures.1
+returns-in_err-install_manifest-clause-device g c = reports_handed c.from_residual-in_err-install_manifest.result c.in_err-install_manifest.was c.install_manifest.ensures.run.device c.from_residual-in_err-install_manifest.ensures.1
 
 pub returns-clause-named : goal.returns-clause-named
 returns-clause-named g c =
@@ -44,4 +44,4 @@ returns-clause-named g c =
     c.install_manifest.result c.in_ok-install_manifest.field-0 _ c.in_ok-install_manifest.was calls refl refl refl refl
 
 pub returns-clause-device : goal.returns-clause-device
-returns-clause-device g c = reports_after _ c.in_ok-install_manifest.was c.install_manifest.ensures.device tt
+returns-clause-device g c = reports_after _ c.in_ok-install_manifest.was c.install_manifest.ensures.run.device tt

@@ -70,7 +70,7 @@ pub returns-in_err-install_planned-clause-answer : goal.returns-in_err-install_p
 returns-in_err-install_planned-clause-answer g c files told current =
     let failed = g.F.Folder.failed in
     stopped_on step_in (failed c.args.folder.now) (failed c.args.folder.now) (failed c.install_planned.new.folder) c.from_residual-in_err-install_planned.result c.in_err-install_planned.field-0.0 _
-    c.from_residual-in_err-install_planned.ensures.1 (omega arith) c.install_planned.ensures.device.later (c.in_err-install_planned.ensures.same_current files told current)
+    c.from_residual-in_err-install_planned.ensures.1 (omega arith) c.install_planned.ensures.run.device.later (c.in_err-install_planned.ensures.run.same_current files told current)
 
 pub returns-in_err-install_planned-clause-left : goal.returns-in_err-install_planned-clause-left
 returns-in_err-install_planned-clause-left g c files order loaded level s told current named can =
@@ -92,7 +92,7 @@ returns-in_err-install_planned-clause-left g c files order loaded level s told c
     named (can answer c.in_ok-planned.ensures.answer)
     (λ P x. refused_on c.install_planned.result q e P h x) refl (λ name held. ((λ x. x), (λ x. x)))
     (no_ok _ q e h) (refused_ok q e _ h)
-    (stopped_named (failed a) (failed n) q e h (c.in_err-install_planned.ensures.same_current files told current)) promises
+    (stopped_named (failed a) (failed n) q e h (c.in_err-install_planned.ensures.run.same_current files told current)) promises
 
 pub returns-in_err-install_planned-clause-runs : goal.returns-in_err-install_planned-clause-runs
 returns-in_err-install_planned-clause-runs g c =
@@ -105,7 +105,7 @@ returns-in_err-install_planned-clause-runs g c =
     let planned = c.in_ok-planned.planned in
     let answer = joined_answer planned in
     let p = picked_in c.args.picked.now in
-    let done = c.install_planned.ensures in
+    let done = c.install_planned.ensures.run in
     install_refused (IsAnsweredBy p c.args.merged.now) g.C.Comparator.name_bytes g.C.Comparator.cmp v c.manifest_of-number.result planned.groups p answer
     (calls a) (calls n) (tells a) (tells n) (failed a) (failed n) c.install_planned.result c.from_residual-in_err-install_planned.result c.in_err-install_planned.field-0.0
     c.manifest_of-number.ensures refl (refl, c.in_ok-planned.ensures.answer) c.sets_internal_key.ensures (subst AreBytes c.edit.ensures c.edit_is_bytes.ensures) c.in_err-install_planned.was c.from_residual-in_err-install_planned.ensures.1
@@ -116,7 +116,7 @@ returns-in_err-install_planned-clause-other g c files told other = no_value c.fr
 
 pub returns-in_err-install_planned-clause-device : goal.returns-in_err-install_planned-clause-device
 returns-in_err-install_planned-clause-device g c =
-    reports_handed c.from_residual-in_err-install_planned.result c.in_err-install_planned.was c.install_planned.ensures.device c.from_residual-in_err-install_planned.ensures.1
+    reports_handed c.from_residual-in_err-install_planned.result c.in_err-install_planned.was c.install_planned.ensures.run.device c.from_residual-in_err-install_planned.ensures.1
 
 -- ---- at Ok
 
@@ -142,7 +142,7 @@ returns-clause-left g c files order loaded level s told current named can =
     let q : Result CompactionStep Fault = Ok c.in_ok-step.step in
     let promises = subst (λ (m : ℕ). Promises name cmp v m answer (calls a) (calls n) (tells a) (tells n) c.install_planned.result) c.manifest_of-number.ensures c.install_planned.ensures.survives in
     let now = subst (λ (m : ℕ). tells n (codes "CURRENT") (Some (current_text m))) c.manifest_of-number.ensures
-    (current_named c.manifest_of-number.result planned.groups (manifest_bytes name cmp v planned.edit) (calls a) (calls n) (tells a) (tells n) c.install_planned.result _ files c.in_ok-install_planned.was c.install_planned.ensures.runs told) in
+    (current_named c.manifest_of-number.result planned.groups (manifest_bytes name cmp v planned.edit) (calls a) (calls n) (tells a) (tells n) c.install_planned.result _ files c.in_ok-install_planned.was c.install_planned.ensures.run.runs told) in
     step_installed name order cmp g.C.Comparator.short_keys v loaded level s p answer
     (calls a) (calls a) (calls n) (tells a) (tells a) (tells n) c.install_planned.result q
     named (can answer c.in_ok-planned.ensures.answer)
@@ -162,12 +162,12 @@ returns-clause-runs g c =
     install_done (IsAnsweredBy p c.args.merged.now) g.C.Comparator.name_bytes g.C.Comparator.cmp v c.manifest_of-number.result planned.groups p answer
     (calls a) (calls n) (tells a) (tells n) c.install_planned.result _ c.in_ok-step.step
     c.manifest_of-number.ensures refl (refl, c.in_ok-planned.ensures.answer) c.sets_internal_key.ensures (subst AreBytes c.edit.ensures c.edit_is_bytes.ensures) c.in_ok-install_planned.was
-    c.install_planned.ensures.runs (equal_value step_in (step_of v p answer) c.in_ok-step.step c.in_ok-step.ensures)
+    c.install_planned.ensures.run.runs (equal_value step_in (step_of v p answer) c.in_ok-step.step c.in_ok-step.ensures)
 
 pub returns-clause-other : goal.returns-clause-other
-returns-clause-other g c files told other = c.in_ok-install_planned.ensures.other_current files told other
+returns-clause-other g c files told other = c.in_ok-install_planned.ensures.run.other_current files told other
 
 pub returns-clause-device : goal.returns-clause-device
 returns-clause-device g c =
     let q : Result CompactionStep Fault = Ok c.in_ok-step.step in
-    reports_after q c.in_ok-install_planned.was c.install_planned.ensures.device tt
+    reports_after q c.in_ok-install_planned.was c.install_planned.ensures.run.device tt

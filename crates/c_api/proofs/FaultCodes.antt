@@ -2,13 +2,7 @@
 use Rattle.std.proofs.Common.{◌≡◌}
 use Rattle.ikey.specs.Answers.{code_of}
 use Rattle.ikey.specs.fault.FaultName.{FaultName}
-use Rattle.ikey.specs.fault.FaultName.TheVariants.{NoInput, Level, Options, SplitOrder, SplitCount, Workers}
-use Rattle.ikey.specs.fault.FaultName.TheVariants.{Snapshot, Size, Short, Magic, Handle, Range}
-use Rattle.ikey.specs.fault.FaultName.TheVariants.{Trailer, Compressed, BlockType, Block, Key, Index}
-use Rattle.ikey.specs.fault.FaultName.TheVariants.{Order, Empty, Bounds, Duplicate, Numbers, TooLarge}
-use Rattle.ikey.specs.fault.FaultName.TheVariants.{SnapshotList, LogChecksum, LogShape, EditTag, EditField, Comparator}
-use Rattle.ikey.specs.fault.FaultName.TheVariants.{Apply, Lawless, Device, Missing, Locked, Changed}
-use Rattle.ikey.specs.fault.FaultName.TheVariants.{Logs, Memory}
+use Rattle.ikey.specs.fault.FaultName.TheVariants.{NoInput, Level, Options, SplitOrder, SplitCount, Workers, Snapshot, Size, Short, Magic, Handle, Range, Trailer, Compressed, BlockType, Block, Key, Index, Order, Empty, Bounds, Duplicate, Numbers, TooLarge, SnapshotList, LogChecksum, LogShape, EditTag, EditField, Comparator, Apply, Lawless, Device, Missing, Locked, Changed, Logs, Memory}
 
 pub code_some : (n : FaultName) → code_of n ≡ 0 → ⊥
 code_some NoInput h = absurd cc

@@ -2,11 +2,12 @@
 use Rattle.std.proofs.Common.{◌≡◌, ℕ, suc, ◌+◌, ◌-◌, ◌≤◌, Bool, true, false, List, [], ◌∷◌, ◌++◌, map, take, length, Option, Some, None, Result, Ok, Err, refl, sym, ap, subst, ◌∙◌, append_assoc, arith}
 use Rattle.std.specs.Prelude.{Contains, nat_eq, nat_le, if◌then◌else◌}
 use Rattle.std.specs.Cmp.{IsTotalOrder}
-use Rattle.std.specs.List.{AllByRecursion}
+use Rattle.std.specs.List.{AllByRecursion, list_all}
 use Rattle.std.specs.Result.{is_ok}
 use Rattle.std.specs.declared.cmp.Ordering.{Ordering}
 use Rattle.std.specs.declared.cmp.Ordering.TheVariants.{Less}
-use Rattle.std.proofs.lemmas.Bool.{and_parts, le-leb, leb-true}
+use Rattle.std.proofs.Math.Seq.{take-append_seam}
+use Rattle.std.proofs.lemmas.Bool.{and_parts, le-leb, leb-true, and_from}
 use Rattle.std.proofs.lemmas.List.{length-append, length-map}
 use Rattle.std.proofs.lemmas.List.Sorted.{Contains-permutation, IsPermutation-sym}
 use Rattle.ikey.specs.Answers.{◌>>=◌, fault}
@@ -50,8 +51,7 @@ use Rattle.c_api.specs.Runs.{arrays_of, bytes_of, lengths_of, mark_of}
 use Rattle.c_api.specs.ToldRuns.{are_entries, are_marks, begins_entry, after_entry, is_told, value_place}
 use Rattle.c_api.specs.declared.run_arrays.EntryLengths.{EntryLengths}
 use Rattle.c_api.specs.declared.run_arrays.RunMark.{RunMark}
-use Rattle.c_api.proofs.Hosts.{ReadRuns, all_merged, behind_back, merges_are, read_runs, take_front, told_lengths}
-use Rattle.c_api.proofs.Merging.{both_true}
+use Rattle.c_api.proofs.Hosts.{ReadRuns, United, all_merged, behind_back, merges_are, read_runs, told_lengths, united}
 
 -- ---- entries that were read
 
@@ -119,7 +119,7 @@ weaker_marks from low count [] le h = let high = leb-true from count h in le-leb
 weaker_marks from low count (m ∷ ms) le h =
     let p = and_parts (nat_le from m.kept) (are_marks m.kept count ms) h in
     let high = leb-true from m.kept p.0 in
-    both_true (nat_le low m.kept) (are_marks m.kept count ms) (le-leb low m.kept (omega (arith, le, high))) p.1
+    and_from (nat_le low m.kept) (are_marks m.kept count ms) (le-leb low m.kept (omega (arith, le, high))) p.1
 
 module _ (cmp : List ℕ → List ℕ → Ordering) (b : CompactionContext) where
   abbrev told : List Mark → List RunMark
@@ -141,10 +141,10 @@ module _ (cmp : List ℕ → List ℕ → Ordering) (b : CompactionContext) wher
           → are_marks n count (told ((if first then mark ∷ [] else []) ++ heads_after cmp b (Some e) (if keep then n + 1 else n) es)) ≡ true
       by true true own rest =
           let one : n + suc (length (left (Some e) es)) ≡ count = own in
-          both_true (nat_le n n) (are_marks n count (told (heads_after cmp b (Some e) (n + 1) es))) (le-leb n n (omega arith))
+          and_from (nat_le n n) (are_marks n count (told (heads_after cmp b (Some e) (n + 1) es))) (le-leb n n (omega arith))
           (weaker_marks (n + 1) n count (told (heads_after cmp b (Some e) (n + 1) es)) (omega arith) (rest (n + 1) (omega (arith, one))))
       by true false own rest =
-          both_true (nat_le n n) (are_marks n count (told (heads_after cmp b (Some e) n es))) (le-leb n n (omega arith)) (rest n own)
+          and_from (nat_le n n) (are_marks n count (told (heads_after cmp b (Some e) n es))) (le-leb n n (omega arith)) (rest n own)
       by false true own rest =
           let one : n + suc (length (left (Some e) es)) ≡ count = own in
           weaker_marks (n + 1) n count (told (heads_after cmp b (Some e) (n + 1) es)) (omega arith) (rest (n + 1) (omega (arith, one)))
@@ -156,7 +156,7 @@ module _ (cmp : List ℕ → List ℕ → Ordering) (b : CompactionContext) wher
       let p = and_parts (nat_le from m.kept) (are_marks m.kept count (told ms)) h in
       by (nat_eq m.below below)
       (changes_between below from count ms (weaker_marks m.kept from count (told ms) (leb-true from m.kept p.0) p.1))
-      (both_true (nat_le from m.kept) (are_marks m.kept count (told (changes_after m.below ms))) p.0 (changes_between m.below m.kept count ms p.1))
+      (and_from (nat_le from m.kept) (are_marks m.kept count (told (changes_after m.below ms))) p.0 (changes_between m.below m.kept count ms p.1))
     where
       by : (same : Bool) → are_marks from count (told (changes_after below ms)) ≡ true → are_marks from count (told (m ∷ changes_after m.below ms)) ≡ true
           → are_marks from count (told (if same then changes_after below ms else (m ∷ changes_after m.below ms))) ≡ true
@@ -167,7 +167,7 @@ module _ (cmp : List ℕ → List ℕ → Ordering) (b : CompactionContext) wher
   changes_all from count [] h = h
   changes_all from count (m ∷ ms) h =
       let p = and_parts (nat_le from m.kept) (are_marks m.kept count (told ms)) h in
-      both_true (nat_le from m.kept) (are_marks m.kept count (told (changes_after m.below ms))) p.0 (changes_between m.below m.kept count ms p.1)
+      and_from (nat_le from m.kept) (are_marks m.kept count (told (changes_after m.below ms))) p.0 (changes_between m.below m.kept count ms p.1)
 
   -- the marks of a run lie between its entries
   pub marks_between : (es : List Entry) → are_marks 0 (length (run_of cmp b es).kept) (told (run_of cmp b es).marks) ≡ true
@@ -180,11 +180,11 @@ begins k v rest h =
     let all : List ℕ = k ++ (v ++ rest) in
     let front = length-append k (v ++ rest) in
     let behind = length-append v rest in
-    both_true (is_within all (value_place (told_lengths k v))) (is_ok (internal_key_reading (take (length k) all)))
-    (both_true (nat_le (length k) (length all)) (nat_le (length v) (length all - length k))
+    and_from (is_within all (value_place (told_lengths k v))) (is_ok (internal_key_reading (take (length k) all)))
+    (and_from (nat_le (length k) (length all)) (nat_le (length v) (length all - length k))
     (le-leb (length k) (length all) (omega (arith, front, behind)))
     (le-leb (length v) (length all - length k) (omega (arith, front, behind))))
-    (ap (λ (bs : List ℕ). is_ok (internal_key_reading bs)) (take_front k (v ++ rest)) ∙ ap (λ (r : Result (List ℕ) Fault). is_ok r) h)
+    (ap (λ (bs : List ℕ). is_ok (internal_key_reading bs)) (take-append_seam k (v ++ rest)) ∙ ap (λ (r : Result (List ℕ) Fault). is_ok r) h)
 
 entries_lie : (es : List Entry) → HaveKeys es → are_entries (bytes_of es) (map lengths_of es) ≡ true
 entries_lie [] h = refl
@@ -193,14 +193,14 @@ entries_lie (e ∷ es) h =
     let ls : List EntryLengths = map lengths_of es in
     let all : List ℕ = e.key ++ (e.value ++ rest) in
     ap (λ (bs : List ℕ). are_entries bs (lengths_of e ∷ ls)) (append_assoc e.key e.value rest)
-    ∙ both_true (begins_entry all (lengths_of e)) (are_entries (after_entry all (lengths_of e)) ls) (begins e.key e.value rest h.0)
+    ∙ and_from (begins_entry all (lengths_of e)) (are_entries (after_entry all (lengths_of e)) ls) (begins e.key e.value rest h.0)
     (subst (λ (bs : List ℕ). are_entries bs ls ≡ true) (sym (behind_back e.key e.value rest)) (entries_lie es h.1))
 
 -- ---- the runs of all ranges
 
-both_of : (d : Bool) (u : List Entry) (f : List Entry → List Run) (runs : List Run) → ((if d then Ok u else Err (fault Duplicate)) >>= λ x. Ok (f x)) ≡ Ok runs → (d ≡ true) × (f u ≡ runs)
-both_of true u f runs h = (refl, ok_is (f u) runs h)
-both_of false u f runs h = absurd cc
+all_tell : {X : Type 0} (p : X → Bool) (xs : List X) → AllByRecursion (λ (x : X). p x ≡ true) xs → list_all p xs ≡ true
+all_tell p [] h = refl
+all_tell p (x ∷ xs) h = and_from (p x) (list_all p xs) h.0 (all_tell p xs h.1)
 
 module _ (cmp : List ℕ → List ℕ → Ordering) (total : IsTotalOrder cmp) (exact : IsExact cmp) (m : AskedMerge) (boundaries : List (List ℕ)) (split : IsSplit cmp boundaries) (runs : List Run) (merges : merges_reading cmp m (ranges_of boundaries) ≡ Ok runs) where
   abbrev b : CompactionContext
@@ -215,15 +215,15 @@ module _ (cmp : List ℕ → List ℕ → Ordering) (total : IsTotalOrder cmp) (
   abbrev union : List Entry
   union = merged cmp read.entries
 
-  parts : (are_distinct union ≡ true) × (runs_of cmp b boundaries union ≡ runs)
-  parts = both_of (are_distinct union) union (runs_of cmp b boundaries) runs same
+  parts : United (are_distinct union) union (runs_of cmp b boundaries) (λ es. Err (fault Duplicate)) runs
+  parts = united (are_distinct union) union (runs_of cmp b boundaries) (λ es. Err (fault Duplicate)) runs same
 
   is_union : IsUnion cmp read.entries union
-  is_union = (distinct_holds cmp total exact read.entries union).1 (refl, parts.0)
+  is_union = (distinct_holds cmp total exact read.entries union).1 (refl, parts.distinct)
 
   kept_is : (joined_run runs).kept ≡ kept cmp b.readable b.deeper union
   kept_is =
-      ap (λ (rs : List Run). (joined_run rs).kept) (sym parts.1)
+      ap (λ (rs : List Run). (joined_run rs).kept) (sym parts.runs_are)
       ∙ (ranges_compose_law cmp total).kept b boundaries union split is_union.rising
 
   in_union : (e : Entry) → Contains union e → IsFit cmp e
@@ -245,15 +245,15 @@ module _ (cmp : List ℕ → List ℕ → Ordering) (total : IsTotalOrder cmp) (
 
   marks_of_run : (run : Run) → Contains runs run → are_marks 0 (length run.kept) (map mark_of run.marks) ≡ true
   marks_of_run run at =
-      let from = from_map (run_of cmp b) (entries_by_range cmp boundaries union) run (subst (λ (rs : List Run). Contains rs run) (sym parts.1) at) in
+      let from = from_map (run_of cmp b) (entries_by_range cmp boundaries union) run (subst (λ (rs : List Run). Contains rs run) (sym parts.runs_are) at) in
       subst (λ (r : Run). are_marks 0 (length r.kept) (map mark_of r.marks) ≡ true) from.is (marks_between cmp b from.source)
 
   -- a run is told by its arrays
   told_run : (run : Run) → Contains runs run → is_told (arrays_of run) ≡ true
   told_run run at =
-      both_true (are_entries (bytes_of run.kept) (map lengths_of run.kept)) (are_marks 0 (length (map lengths_of run.kept)) (map mark_of run.marks))
+      and_from (are_entries (bytes_of run.kept) (map lengths_of run.kept)) (are_marks 0 (length (map lengths_of run.kept)) (map mark_of run.marks))
       (entries_lie run.kept (keys_of run at))
       (ap (λ (n : ℕ). are_marks 0 n (map mark_of run.marks)) (length-map run.kept lengths_of) ∙ marks_of_run run at)
 
-  pub all_told : AllByRecursion (λ (run : Run). is_told (arrays_of run) ≡ true) runs
-  all_told = of_each (λ (run : Run). is_told (arrays_of run) ≡ true) runs told_run
+  pub all_told : list_all (λ (run : Run). is_told (arrays_of run)) runs ≡ true
+  all_told = all_tell (λ (run : Run). is_told (arrays_of run)) runs (of_each (λ (run : Run). is_told (arrays_of run) ≡ true) runs told_run)

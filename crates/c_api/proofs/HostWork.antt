@@ -1,13 +1,16 @@
 -- A compaction that a host makes by these calls, and what one thread answers.
 use Rattle.std.proofs.Common.{◌≡◌, ◌≢◌, ℕ, suc, ◌+◌, ◌<◌, ◌≤◌, ◌^◌, Bool, true, false, ◌&&◌, List, [], ◌∷◌, ◌++◌, map, take, drop, length, Option, Some, None, Result, Ok, Err, refl, sym, ap, subst, ◌∙◌, inl, inr, arith, ◌-◌}
-use Rattle.std.specs.Prelude.{◌⊎◌, Contains, cond, nat_eq, nat_le, nat_lt, if◌then◌else◌, MatchBool}
+use Rattle.std.specs.Prelude.{◌⊎◌, Contains, nat_eq, nat_le, nat_lt, if◌then◌else◌, MatchBool}
 use Rattle.std.specs.Cmp.{IsTotalOrder}
 use Rattle.std.specs.List.{AllByRecursion, filter, list_all}
 use Rattle.std.specs.declared.cmp.Ordering.{Ordering}
-use Rattle.std.proofs.lemmas.Bool.{and_parts, le-leb, leb-true, lt-ltb}
+use Rattle.std.proofs.lemmas.Bool.{and_parts, le-leb, leb-true, lt-ltb, and_from}
 use Rattle.std.proofs.lemmas.List.{length-append, length-map, length-drop, drop-append-le, take-append-le}
 use Rattle.std.proofs.lemmas.List.Elements.{All-contains}
+use Rattle.std.proofs.lemmas.List.Folds.{list_all-map}
 use Rattle.std.proofs.lemmas.List.Sums.{sum_by-cons}
+use Rattle.std.proofs.lemmas.Simd.{map-map}
+use Rattle.std.proofs.Math.Seq.{drop-append_seam, take-append_seam}
 use Rattle.coding.specs.Saturated.{saturated}
 use Rattle.ikey.specs.Answers.{◌>>=◌, fault}
 use Rattle.ikey.specs.Comparator.{IsExact, KeyOrder, ShortKeys}
@@ -76,7 +79,8 @@ use Rattle.c_api.specs.declared.run_places.RunPlaces.{RunPlaces}
 use Rattle.c_api.specs.declared.user_range.UserRange.{UserRange}
 use Rattle.c_api.proofs.HeldRuns.{all_told, fit, rise}
 use Rattle.c_api.proofs.Hosts.{host_merged, host_refused, host_tested, result_is, run_back, host_unread}
-use Rattle.c_api.proofs.Merging.{both_true, keys_lent, answered}
+use Rattle.c_api.proofs.Merging.{answered, keys_lent, three_true}
+use Rattle.c_api.proofs.SparedFiles.{map_filter}
 use Rattle.table.specs.Tallies.{tally_of}
 use Rattle.std.specs.Result.{is_ok}
 use Rattle.std.proofs.lemmas.Bool.Decides.{nat_tests}
@@ -118,36 +122,11 @@ then_coded (Ok x) (Ok xs) = refl
 then_coded (Ok x) (Err e) = refl
 then_coded (Err e) rs = refl
 
-three_true : (a b c : Bool) → a ≡ true → b ≡ true → c ≡ true → (a && b && c) ≡ true
-three_true a b c h k l = ap (λ (x : Bool). x && b && c) h ∙ ap (λ (x : Bool). true && x && c) k ∙ l
-
 -- ---- lists
-
-abbrev head_of : {A : Type 0} → A → List A → A
-head_of d [] = d
-head_of d (x ∷ xs) = x
-
-abbrev tail_of : {A : Type 0} → List A → List A
-tail_of [] = []
-tail_of (x ∷ xs) = xs
-
-head_is : {A : Type 0} (a b : A) (xs ys : List A) → a ∷ xs ≡ b ∷ ys → a ≡ b
-head_is a b xs ys h = ap (head_of a) h
-
-tail_is : {A : Type 0} (a b : A) (xs ys : List A) → a ∷ xs ≡ b ∷ ys → xs ≡ ys
-tail_is a b xs ys h = ap tail_of h
 
 each_told : {X : Type 0} (p : X → Bool) (xs : List X) → list_all p xs ≡ true → AllByRecursion (λ (x : X). p x ≡ true) xs
 each_told p [] h = tt
 each_told p (x ∷ xs) h = let k = and_parts (p x) (list_all p xs) h in (k.0, each_told p xs k.1)
-
-take_own : (xs ys : List Entry) → take (length xs) (xs ++ ys) ≡ xs
-take_own [] ys = refl
-take_own (x ∷ xs) ys = ap (λ (l : List Entry). x ∷ l) (take_own xs ys)
-
-drop_own : (xs ys : List Entry) → drop (length xs) (xs ++ ys) ≡ ys
-drop_own [] ys = refl
-drop_own (x ∷ xs) ys = drop_own xs ys
 
 -- ---- the tests
 
@@ -167,7 +146,7 @@ module _ (cmp : List ℕ → List ℕ → Ordering) (short_keys : ShortKeys) (m 
   request_is : list_all (has_keys m.keys) (files_of m.inputs) ≡ true → list_all (has_keys m.keys) m.deeper ≡ true → request_answer m.keys m.request m.snapshots (files_of m.inputs) m.deeper ≡ coded (request_result m cmp)
   request_is files deeper =
       let reading : KeyOrder → Result (Unit {0}) Fault = request_reading m.keys m.request m.snapshots (files_of m.inputs) m.deeper in
-      ap (λ (b : Bool). lent_or_misuse b (by_order m.request.order reading)) (both_true (list_all (has_keys m.keys) (files_of m.inputs)) (list_all (has_keys m.keys) m.deeper) files deeper)
+      ap (λ (b : Bool). lent_or_misuse b (by_order m.request.order reading)) (and_from (list_all (has_keys m.keys) (files_of m.inputs)) (list_all (has_keys m.keys) m.deeper) files deeper)
       ∙ ap (λ (r : Result (Unit {0}) Fault). coded r) (order_is reading)
 
   abbrev table_call : Input → Result Counts ℕ
@@ -211,41 +190,29 @@ module _ (cmp : List ℕ → List ℕ → Ordering) (short_keys : ShortKeys) (m 
 
 -- ---- the runs in the host's arrays
 
-runs_lie : (a : Arrays) (ps : List RunPlaces) (runs : List Run) → list_all (has_parts a) ps ≡ true → map (arrays_at a) ps ≡ map arrays_of runs → AllByRecursion (λ (run : Run). is_told (arrays_of run) ≡ true) runs → list_all (is_run a) ps ≡ true
-runs_lie a [] runs within same told = refl
-runs_lie a (p ∷ ps) [] within same told = absurd cc
-runs_lie a (p ∷ ps) (run ∷ runs) within same told =
-    let w = and_parts (has_parts a p) (list_all (has_parts a) ps) within in
-    both_true (is_run a p) (list_all (is_run a) ps)
-    (both_true (has_parts a p) (is_told (arrays_at a p)) w.0 (ap (λ (x : Arrays). is_told x) (head_is (arrays_at a p) (arrays_of run) (map (arrays_at a) ps) (map arrays_of runs) same) ∙ told.0))
-    (runs_lie a ps runs w.1 (tail_is (arrays_at a p) (arrays_of run) (map (arrays_at a) ps) (map arrays_of runs) same) told.1)
+both_all : {X : Type 0} (p q : X → Bool) (xs : List X) → list_all p xs ≡ true → list_all q xs ≡ true → list_all (λ (x : X). p x && q x) xs ≡ true
+both_all p q [] h k = refl
+both_all p q (x ∷ xs) h k =
+    let a = and_parts (p x) (list_all p xs) h in
+    let b = and_parts (q x) (list_all q xs) k in
+    and_from _ _ (and_from (p x) (q x) a.0 b.0) (both_all p q xs a.1 b.1)
+
+runs_lie : (a : Arrays) (ps : List RunPlaces) (runs : List Run) → list_all (has_parts a) ps ≡ true → map (arrays_at a) ps ≡ map arrays_of runs → list_all (λ (run : Run). is_told (arrays_of run)) runs ≡ true → list_all (is_run a) ps ≡ true
+runs_lie a ps runs within same told =
+    both_all (has_parts a) (λ (p : RunPlaces). is_told (arrays_at a p)) ps within (sym (list_all-map is_told (arrays_at a) ps) ∙ ap (list_all is_told) same ∙ list_all-map is_told arrays_of runs ∙ told)
+
+all_back : (runs : List Run) → map run_told (map arrays_of runs) ≡ runs
+all_back [] = refl
+all_back (run ∷ runs) = ap (λ (x : Run). x ∷ map run_told (map arrays_of runs)) (run_back run) ∙ ap (λ (xs : List Run). run ∷ xs) (all_back runs)
 
 runs_back : (a : Arrays) (ps : List RunPlaces) (runs : List Run) → map (arrays_at a) ps ≡ map arrays_of runs → map (run_at a) ps ≡ runs
-runs_back a [] [] same = refl
-runs_back a [] (run ∷ runs) same = absurd cc
-runs_back a (p ∷ ps) [] same = absurd cc
-runs_back a (p ∷ ps) (run ∷ runs) same =
-    ap (λ (x : Arrays). run_told x ∷ map (run_at a) ps) (head_is (arrays_at a p) (arrays_of run) (map (arrays_at a) ps) (map arrays_of runs) same)
-    ∙ ap (λ (x : Run). x ∷ map (run_at a) ps) (run_back run)
-    ∙ ap (λ (xs : List Run). run ∷ xs) (runs_back a ps runs (tail_is (arrays_at a p) (arrays_of run) (map (arrays_at a) ps) (map arrays_of runs) same))
+runs_back a ps runs same = sym (map-map run_told (arrays_at a) ps) ∙ ap (map run_told) same ∙ all_back runs
 
 -- ---- planned outputs
 
 limits_hold : (o : declared.Options) → AreInLimits o → are_in_limits o ≡ true
 limits_hold o l =
-    let a = nat_le 1 o.block_size in
-    let b = nat_le o.block_size 4194304 in
-    let c = nat_le 1 o.restart_interval in
-    let d = nat_le o.restart_interval 1024 in
-    let e = nat_le 1 o.file_size in
-    let f = nat_le o.file_size (2 ^ 30) in
-    both_true (a && b && c && d && e) f
-    (both_true (a && b && c && d) e
-    (both_true (a && b && c) d
-    (both_true (a && b) c (both_true a b (le-leb 1 o.block_size l.block_size_some) (le-leb o.block_size 4194304 l.block_size_le)) (le-leb 1 o.restart_interval l.interval_some))
-    (le-leb o.restart_interval 1024 l.interval_le))
-    (le-leb 1 o.file_size l.file_size_some))
-    (le-leb o.file_size (2 ^ 30) l.file_size_le)
+    and_from _ _ (and_from _ _ (and_from _ _ (and_from _ _ (and_from _ _ (le-leb _ _ l.block_size_some) (le-leb _ _ l.block_size_le)) (le-leb _ _ l.interval_some)) (le-leb _ _ l.interval_le)) (le-leb _ _ l.file_size_some)) (le-leb _ _ l.file_size_le)
 
 module _ (table_of : List Entry → List ℕ) (o : declared.Options) where
   length_is : (number : ℕ) (qs : List (List Entry)) → length (outputs_from table_of number qs) ≡ length qs
@@ -272,8 +239,8 @@ module _ (table_of : List Entry → List ℕ) (o : declared.Options) where
   told_parts first number (q ∷ qs) =
       let rest : List Entry = entries_of_lists qs in
       let ps : List PlannedOutput = outputs_told (saturated (first + length q)) (planned_from table_of o (number + 1) qs) in
-      ap (λ (p : List Entry). p ∷ parts_told ps (drop (length q) (q ++ rest))) (take_own q rest)
-      ∙ ap (λ (es : List Entry). q ∷ parts_told ps es) (drop_own q rest)
+      ap (λ (p : List Entry). p ∷ parts_told ps (drop (length q) (q ++ rest))) (take-append_seam q rest)
+      ∙ ap (λ (es : List Entry). q ∷ parts_told ps es) (drop-append_seam q rest)
       ∙ ap (λ (xs : List (List Entry)). q ∷ xs) (told_parts (saturated (first + length q)) (number + 1) qs)
 
   told_files : (level place first number : ℕ) (qs : List (List Entry)) → files_told level place (outputs_told first (planned_from table_of o number qs)) qs ≡ map (output_file level) (outputs_from table_of place qs)
@@ -326,14 +293,9 @@ abbrev level_metas : ℕ → List InputFile → List FileMeta
 level_metas level is = map (λ (i : InputFile). i.meta) (filter (λ (i : InputFile). nat_eq i.level level) is)
 
 metas_are : (keys : List ℕ) (level : ℕ) (files : List File) → metas_of keys level files ≡ level_metas level (map (input_file keys) files)
-metas_are keys level [] = refl
-metas_are keys level (f ∷ fs) = by (nat_eq f.level level) (metas_are keys level fs)
-  where
-    by : (b : Bool) → metas_of keys level fs ≡ level_metas level (map (input_file keys) fs)
-        → map (meta_at keys) (cond b (f ∷ filter (is_of level) fs) (filter (is_of level) fs))
-        ≡ map (λ (i : InputFile). i.meta) (cond b (input_file keys f ∷ filter (λ (i : InputFile). nat_eq i.level level) (map (input_file keys) fs)) (filter (λ (i : InputFile). nat_eq i.level level) (map (input_file keys) fs)))
-    by true same = ap (λ (ms : List FileMeta). meta_at keys f ∷ ms) same
-    by false same = same
+metas_are keys level files =
+    sym (map-map (λ (i : InputFile). i.meta) (input_file keys) (filter (is_of level) files))
+    ∙ ap (map (λ (i : InputFile). i.meta)) (map_filter (input_file keys) (λ (i : InputFile). nat_eq i.level level) files)
 
 low_level : (level n : ℕ) → level ≤ 5 → (n ≡ level) ⊎ (n ≡ level + 1) → nat_le n 6 ≡ true
 low_level level n low (inl h) = le-leb n 6 (omega (arith, low, h))
@@ -342,7 +304,7 @@ low_level level n low (inr h) = le-leb n 6 (omega (arith, low, h))
 low_levels : (keys : List ℕ) (level : ℕ) (files : List File) → level ≤ 5 → ((i : InputFile) → Contains (map (input_file keys) files) i → (i.level ≡ level) ⊎ (i.level ≡ level + 1)) → have_levels files ≡ true
 low_levels keys level [] low each = refl
 low_levels keys level (f ∷ fs) low each =
-    both_true (nat_le f.level 6) (have_levels fs) (low_level level f.level low (each (input_file keys f) (first_in (input_file keys f) (map (input_file keys) fs))))
+    and_from (nat_le f.level 6) (have_levels fs) (low_level level f.level low (each (input_file keys f) (first_in (input_file keys f) (map (input_file keys) fs))))
     (low_levels keys level fs low (λ i at. each i (later_in (input_file keys f) (map (input_file keys) fs) i at)))
 
 not_above : (level : ℕ) → level ≤ 5 → nat_lt 5 level ≡ false
@@ -631,7 +593,7 @@ module _ (keys more : List ℕ) where
       let low = leb-true p.from (length keys) k.0 in
       let high = leb-true p.len (length keys - p.from) k.1 in
       let long = length-append keys more in
-      both_true (nat_le p.from (length (keys ++ more))) (nat_le p.len (length (keys ++ more) - p.from))
+      and_from (nat_le p.from (length (keys ++ more))) (nat_le p.len (length (keys ++ more) - p.from))
       (le-leb p.from (length (keys ++ more)) (omega (arith, low, long)))
       (le-leb p.len (length (keys ++ more) - p.from) (omega (arith, low, high, long)))
 
@@ -647,7 +609,7 @@ module _ (keys more : List ℕ) where
   key_more p h =
       let k = and_parts (is_within keys p) (is_ok (internal_key_reading (part_at keys p))) h in (
         k.0,
-        both_true (is_within (keys ++ more) p) (is_ok (internal_key_reading (part_at (keys ++ more) p))) (within_more p k.0)
+        and_from (is_within (keys ++ more) p) (is_ok (internal_key_reading (part_at (keys ++ more) p))) (within_more p k.0)
             (ap (λ (bs : List ℕ). is_ok (internal_key_reading bs)) (part_more p k.0) ∙ k.1),
       )
 
@@ -665,7 +627,7 @@ module _ (keys more : List ℕ) where
         let small = key_more i.file.smallest k.0 in
         let large = key_more i.file.largest k.1 in
         ap (λ (b : Bool). lent_or_misuse b (reading (meta_at (keys ++ more) i.file)))
-        (both_true (has_keys (keys ++ more) i.file) (is_within tables i.table) (both_true (is_key_at (keys ++ more) i.file.smallest) (is_key_at (keys ++ more) i.file.largest) small.1 large.1) p.1)
+        (and_from (has_keys (keys ++ more) i.file) (is_within tables i.table) (and_from (is_key_at (keys ++ more) i.file.smallest) (is_key_at (keys ++ more) i.file.largest) small.1 large.1) p.1)
         ∙ ap (λ (bs : List ℕ). coded (reading (meta_by bs (part_at (keys ++ more) i.file.largest)))) (part_more i.file.smallest small.0)
         ∙ ap (λ (bs : List ℕ). coded (reading (meta_by (part_at keys i.file.smallest) bs))) (part_more i.file.largest large.0)
         ∙ sym (ap (λ (b : Bool). lent_or_misuse b (reading (meta_at keys i.file))) lent) ∙ h

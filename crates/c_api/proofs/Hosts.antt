@@ -3,6 +3,7 @@ use Rattle.std.proofs.Common.{◌≡◌, ℕ, suc, Bool, true, false, List, [], 
 use Rattle.std.specs.Prelude.{nat_eq, nat_le, ◌&&◌, cond, if◌then◌else◌}
 use Rattle.std.specs.List.{list_all}
 use Rattle.std.specs.declared.cmp.Ordering.{Ordering}
+use Rattle.std.proofs.Math.Seq.{drop-append_seam, take-append_seam}
 use Rattle.ikey.specs.Answers.{◌>>=◌, fault}
 use Rattle.ikey.specs.Comparator.{ShortKeys}
 use Rattle.ikey.specs.fault.Fault.{Fault}
@@ -37,14 +38,6 @@ use Rattle.c_api.specs.declared.run_arrays.EntryLengths.{EntryLengths}
 
 -- ---- what is read back
 
-pub take_front : (a b : List ℕ) → take (length a) (a ++ b) ≡ a
-take_front [] b = refl
-take_front (x ∷ a) b = ap (λ (l : List ℕ). x ∷ l) (take_front a b)
-
-drop_front : (a b : List ℕ) → drop (length a) (a ++ b) ≡ b
-drop_front [] b = refl
-drop_front (x ∷ a) b = drop_front a b
-
 abbrev pub told_lengths : List ℕ → List ℕ → EntryLengths
 told_lengths k v = record { key = length k; value = length v }
 
@@ -53,11 +46,11 @@ told_entry k v = record { key = k; value = v }
 
 entry_back : (k v rest : List ℕ) → first_entry (k ++ (v ++ rest)) (told_lengths k v) ≡ told_entry k v
 entry_back k v rest =
-    ap (λ (x : List ℕ). told_entry x (take (length v) (drop (length k) (k ++ (v ++ rest))))) (take_front k (v ++ rest))
-    ∙ ap (λ (x : List ℕ). told_entry k x) (ap (take (length v)) (drop_front k (v ++ rest)) ∙ take_front v rest)
+    ap (λ (x : List ℕ). told_entry x (take (length v) (drop (length k) (k ++ (v ++ rest))))) (take-append_seam k (v ++ rest))
+    ∙ ap (λ (x : List ℕ). told_entry k x) (ap (take (length v)) (drop-append_seam k (v ++ rest)) ∙ take-append_seam v rest)
 
 pub behind_back : (k v rest : List ℕ) → after_entry (k ++ (v ++ rest)) (told_lengths k v) ≡ rest
-behind_back k v rest = ap (drop (length v)) (drop_front k (v ++ rest)) ∙ drop_front v rest
+behind_back k v rest = ap (drop (length v)) (drop-append_seam k (v ++ rest)) ∙ drop-append_seam v rest
 
 entries_back : (es : List Entry) → entries_told (bytes_of es) (map lengths_of es) ≡ es
 entries_back [] = refl
@@ -155,7 +148,7 @@ pub record United (d : Bool) (mg : List Entry) (f : List Entry → List Run) (k 
   pub runs_are : f mg ≡ runs
   pub goes_on : (if_distinct d mg >>= k) ≡ k mg
 
-united : (d : Bool) (mg : List Entry) (f : List Entry → List Run) (k : List Entry → Result Answer Fault) (runs : List Run) → (if_distinct d mg >>= λ u. Ok (f u)) ≡ Ok runs → United d mg f k runs
+pub united : (d : Bool) (mg : List Entry) (f : List Entry → List Run) (k : List Entry → Result Answer Fault) (runs : List Run) → (if_distinct d mg >>= λ u. Ok (f u)) ≡ Ok runs → United d mg f k runs
 united true mg f k runs h = record { distinct = refl; runs_are = cc; goes_on = refl }
 united false mg f k runs h = absurd cc
 

@@ -2,8 +2,7 @@
 use Rattle.std.proofs.Common.{◌≡◌, ℕ, ◌≤◌, true, List, [], ◌∷◌, map, sym, subst, arith}
 use Rattle.std.specs.Prelude.{nat_le}
 use Rattle.std.specs.List.{All, list_all}
-use Rattle.std.proofs.lemmas.Bool.{and_parts}
-use Rattle.std.proofs.lemmas.Bool.Decides.{nat_tests}
+use Rattle.std.proofs.lemmas.Bool.{and_parts, leb-true}
 use Rattle.std.proofs.lemmas.List.Elements.{All-nil, All-cons}
 use Rattle.edit.specs.Edit.{Edit, HasValidLevels}
 use Rattle.edit.specs.declared.meta.CompactPointer.{CompactPointer}
@@ -21,16 +20,13 @@ use Rattle.c_api.specs.Closed.{are_files, is_file, new_file}
 use Rattle.c_api.specs.Files.{has_keys}
 use Rattle.c_api.specs.declared.file.File.{File}
 
-low_told : (m n : ℕ) → nat_le m n ≡ true → m ≤ n
-low_told m n h = grind (arith, nat_tests)
-
 -- files whose levels were tested have levels up to 6
 pub levelled : (keys : List ℕ) (files : List File) → are_files keys files ≡ true → All (λ (f : NewFile). f.level ≤ LAST_LEVEL) (map (new_file keys) files)
 levelled keys [] h = All-nil (λ (f : NewFile). f.level ≤ LAST_LEVEL)
 levelled keys (f ∷ files) h =
     let parts = and_parts (is_file keys f) (list_all (is_file keys) files) h in
     let own = and_parts (has_keys keys f) (nat_le f.level LAST_LEVEL) parts.0 in
-    All-cons (λ (x : NewFile). x.level ≤ LAST_LEVEL) (new_file keys f) (map (new_file keys) files) (low_told f.level LAST_LEVEL own.1) (levelled keys files parts.1)
+    All-cons (λ (x : NewFile). x.level ≤ LAST_LEVEL) (new_file keys f) (map (new_file keys) files) (leb-true f.level LAST_LEVEL own.1) (levelled keys files parts.1)
 
 -- an edit that only adds such files has valid levels
 pub levels_adding : (keys : List ℕ) (files : List File) (e : Edit) → are_files keys files ≡ true → e.pointers ≡ [] → e.deleted ≡ [] → e.added ≡ map (new_file keys) files → HasValidLevels e
@@ -47,7 +43,7 @@ low_deletions keys done [] all h = all
 low_deletions keys done (f ∷ files) all h =
     let parts = and_parts (nat_le f.level LAST_LEVEL) (have_levels files) h in
     let d : DeletedFile = deletion_of (input_file keys f) in
-    low_deletions keys (insert_key deleted_cmp done d) files (All-insert_key deleted_cmp d (λ (x : DeletedFile). x.level ≤ LAST_LEVEL) done all (low_told f.level LAST_LEVEL parts.0)) parts.1
+    low_deletions keys (insert_key deleted_cmp done d) files (All-insert_key deleted_cmp d (λ (x : DeletedFile). x.level ≤ LAST_LEVEL) done all (leb-true f.level LAST_LEVEL parts.0)) parts.1
 
 -- an edit that deletes such files, adds such files and sets a pointer has valid levels
 pub levels_of_edit : (keys : List ℕ) (files added : List File) (pointer : CompactPointer) (e : Edit) → pointer.level ≤ 5 → have_levels files ≡ true → are_files keys added ≡ true

@@ -1,9 +1,9 @@
 -- The steps of the merge of a range.
 use Rattle.std.proofs.Common.{◌≡◌, ℕ, Bool, true, false, ◌&&◌, List, [], ◌∷◌, map, Option, Some, None, Result, Ok, Err, refl, sym, ap, subst}
 use Rattle.std.specs.Prelude.{if◌then◌else◌}
-use Rattle.std.specs.List.{AllByRecursion, list_all}
+use Rattle.std.specs.List.{list_all}
 use Rattle.std.specs.declared.cmp.Ordering.{Ordering}
-use Rattle.std.proofs.lemmas.Bool.{and_parts}
+use Rattle.std.proofs.lemmas.Bool.{and_from, and_parts}
 use Rattle.ikey.specs.Answers.{◌>>=◌, EqualOrMemory}
 use Rattle.ikey.specs.Bytewise.{bytewise_cmp}
 use Rattle.ikey.specs.Shortlex.{shortlex_cmp}
@@ -14,6 +14,7 @@ use Rattle.compact.specs.Request.{request_test}
 use Rattle.keep.specs.Marks.{CompactionContext}
 use Rattle.keep.specs.Runs.{range_run}
 use Rattle.ikey.proofs.Refusals.{unless_from}
+use Rattle.merge.proofs.Orders.{all_weaker}
 use Rattle.edit.proofs.Binds.{ok_is}
 use Rattle.keep.proofs.OnAnswers.{ok_not_err}
 use Rattle.pick.specs.PickedInputs.{PickedInputs, picked_in}
@@ -21,8 +22,7 @@ use Rattle.pick.specs.declared.picked_inputs.Inputs.{Inputs}
 use Rattle.c_api.specs.Codes.{coded}
 use Rattle.c_api.specs.Files.{has_keys, meta_at}
 use Rattle.c_api.specs.InputTables.{AreRead, IsRead, entries_at}
-use Rattle.c_api.specs.Merges.{are_inputs}
-use Rattle.c_api.specs.Merges.{AreChecked, AskedMerge, context_at, grandparents_in, is_lent, run_reading}
+use Rattle.c_api.specs.Merges.{AreChecked, AskedMerge, are_inputs, context_at, grandparents_in, is_lent, run_reading}
 use Rattle.c_api.specs.Held.{context_with}
 use Rattle.c_api.specs.Places.{is_within, part_at}
 use Rattle.c_api.specs.Ranges.{is_range, range_in}
@@ -35,11 +35,9 @@ use Rattle.c_api.specs.declared.input.Input.{Input}
 use Rattle.c_api.specs.declared.request.HostRequest.{HostRequest}
 use Rattle.c_api.proofs.CheckedInputs.{inputs_found}
 
--- both of two tests
-pub both_true : (a b : Bool) → a ≡ true → b ≡ true → (a && b) ≡ true
-both_true true true h k = refl
-both_true true false h k = absurd cc
-both_true false b h k = absurd cc
+-- all of three tests
+pub three_true : (a b c : Bool) → a ≡ true → b ≡ true → c ≡ true → (a && b && c) ≡ true
+three_true a b c h k l = and_from (a && b) c (and_from a b h k) l
 
 pub three_parts : (a b c : Bool) → (a && b && c) ≡ true → (a ≡ true) × (b ≡ true) × (c ≡ true)
 three_parts true true true h = (refl, refl, refl)
@@ -53,7 +51,7 @@ keys_lent keys tables [] h = refl
 keys_lent keys tables (i ∷ is) h =
     let p = and_parts (is_input keys tables i) (are_inputs keys tables is) h in
     let own = and_parts (has_keys keys i.file) (is_within tables i.table) p.0 in
-    both_true (has_keys keys i.file) (list_all (has_keys keys) (files_of is)) own.0 (keys_lent keys tables is p.1)
+    and_from (has_keys keys i.file) (list_all (has_keys keys) (files_of is)) own.0 (keys_lent keys tables is p.1)
 
 -- what is lent
 pub record LentParts (m : AskedMerge) : Type 0 where
@@ -76,7 +74,7 @@ lent_parts m h =
 pub files_lent : (m : AskedMerge) → is_lent m ≡ true → (files : List File) → files ≡ files_of m.inputs → (list_all (has_keys m.keys) files && list_all (has_keys m.keys) m.deeper) ≡ true
 files_lent m lent files same =
     let p = lent_parts m lent in
-    both_true (list_all (has_keys m.keys) files) (list_all (has_keys m.keys) m.deeper) (subst (λ (fs : List File). list_all (has_keys m.keys) fs ≡ true) (sym same) p.files) p.deeper
+    and_from (list_all (has_keys m.keys) files) (list_all (has_keys m.keys) m.deeper) (subst (λ (fs : List File). list_all (has_keys m.keys) fs ≡ true) (sym same) p.files) p.deeper
 
 -- a request that passed its tests has a compact pointer
 pub pointed : (cmp : List ℕ → List ℕ → Ordering) (keys : List ℕ) (r : HostRequest) (snapshots : Snapshots) (files deeper : List File) (o : Option (List ℕ)) → pointed_test cmp keys r snapshots files deeper o ≡ Ok tt
@@ -106,11 +104,6 @@ context_seen cmp m key (Ok p) h =
     (ok_is (picked_with cmp m.keys m.request.level (files_of m.inputs) m.deeper key) (picked_in p) h)
 context_seen cmp m key (Err e) h = unless_from e _ _ (λ k. absurd (ok_not_err _ e k)) h
 
--- what was checked in an order was read in it
-pub read_of : {P Q : Input → Type 0} (each : (i : Input) → P i → Q i) (is : List Input) → AllByRecursion P is → AllByRecursion Q is
-read_of each [] h = tt
-read_of each (i ∷ is) h = (each i h.0, read_of each is h.1)
-
 pub answered : {A : Type 0} (lent : Bool) (r : Result A Fault) (n : ℕ) (x : A) → ◌≡◌ {A = Result A ℕ} (if lent then coded r else Err n) (Ok x) → ◌≡◌ {A = Result A Fault} r (Ok x)
 answered true (Ok y) n x h = cc
 answered true (Err e) n x h = absurd cc
@@ -123,7 +116,7 @@ read_shortlex : (keys tables : List ℕ) (i : Input) → table_answer SHORTLEX k
 read_shortlex keys tables i h = answered (is_input keys tables i) (counts_reading (meta_at keys i.file) (part_at tables i.table) shortlex_cmp) MISUSE i.counts h
 
 pub checked_bytewise : (order : ℕ) (keys tables : List ℕ) (is : List Input) → order ≡ BYTEWISE → AreChecked order keys tables is → AreRead bytewise_cmp keys tables is
-checked_bytewise order keys tables is own h = read_of (read_bytewise keys tables) is (subst (λ (n : ℕ). AreChecked n keys tables is) own h)
+checked_bytewise order keys tables is own h = all_weaker _ _ (read_bytewise keys tables) is (subst (λ (n : ℕ). AreChecked n keys tables is) own h)
 
 pub checked_shortlex : (order : ℕ) (keys tables : List ℕ) (is : List Input) → order ≡ SHORTLEX → AreChecked order keys tables is → AreRead shortlex_cmp keys tables is
-checked_shortlex order keys tables is own h = read_of (read_shortlex keys tables) is (subst (λ (n : ℕ). AreChecked n keys tables is) own h)
+checked_shortlex order keys tables is own h = all_weaker _ _ (read_shortlex keys tables) is (subst (λ (n : ℕ). AreChecked n keys tables is) own h)

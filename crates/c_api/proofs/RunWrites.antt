@@ -1,12 +1,12 @@
 -- The entries of a run, written into a room part by part.
-use Rattle.std.proofs.Common.{◌≡◌, ℕ, zero, suc, ◌+◌, ◌-◌, ◌<◌, ◌≤◌, List, [], ◌∷◌, ◌++◌, map, take, drop, length, get_or, Bool, true, ◌&&◌, Some, refl, sym, ap, subst, ◌∙◌, arith, append_assoc}
+use Rattle.std.proofs.Common.{◌≡◌, ℕ, zero, suc, ◌+◌, ◌-◌, ◌<◌, ◌≤◌, List, [], ◌∷◌, ◌++◌, map, take, drop, length, get_or, Bool, true, ◌&&◌, Some, refl, sym, ap, subst, ◌∙◌, arith}
 use Rattle.std.specs.Prelude.{slice_get, nat_le, MatchBool}
 use Rattle.std.specs.Option.{option_map}
 use Rattle.std.specs.Simd.Lanes.{put_chunk}
 use Rattle.std.proofs.Math.Seq.{take-append-add}
 use Rattle.std.proofs.lemmas.Bool.{and_parts, leb-true}
 use Rattle.std.proofs.lemmas.Grind.{flat_map-append}
-use Rattle.std.proofs.lemmas.List.{length-append, length-drop, length-map, length-take-le, map-append, take-append-drop, take_all, take_more, flat_map_more}
+use Rattle.std.proofs.lemmas.List.{length-append, length-drop, length-map, length-take-le, map-append, take-append-drop, take_more, flat_map_more}
 use Rattle.std.proofs.lemmas.Option.{same_Some, slice_get-get_or}
 use Rattle.std.proofs.lemmas.Simd.{length-put_chunk, put_chunk_is}
 use Rattle.reads.specs.EncodedEntry.{Entry}
@@ -16,7 +16,6 @@ use Rattle.c_api.specs.declared.code.TheConstants.{ROOM}
 use Rattle.c_api.specs.declared.run_arrays.EntryLengths.{EntryLengths}
 use Rattle.c_api.specs.declared.run_arrays.RunMark.{RunMark}
 use Rattle.c_api.specs.declared.run_arrays.RunSize.{RunSize}
-use Rattle.c_api.proofs.RunLists.{bytes_more}
 
 -- a part, and then the next one after it, are both together
 pub put_more : {A : Type 0} (at : ℕ) (room xs ys : List A) → put_chunk (at + length xs) (put_chunk at room xs) ys ≡ put_chunk at room (xs ++ ys)
@@ -91,11 +90,6 @@ module _ {X Y : Type 0} (items : List X → List Y) (all : List X) (at : ℕ) (o
       let kept = length-put_chunk at old done in
       omega (arith, so.ends, fits, longer, next_len, whole, parts, sum, same, kept)
 
-  -- all are written
-  pub all_written : length all ≤ place → (room ≡ put_chunk at old (items all)) × (end ≡ at + length (items all))
-  all_written le =
-      (so.written ∙ ap (λ (l : List X). put_chunk at old (items l)) (take_all place all le), so.ends ∙ ap (λ (l : List X). at + length (items l)) (take_all place all le))
-
 -- how long the bytes are with one more entry
 pub len_more : (xs : List Entry) (i : ℕ) (both : EntryLengths) → i < length xs → option_map lengths_of (slice_get xs i) ≡ Some both
     → length (bytes_of (take (i + 1) xs)) ≡ length (bytes_of (take i xs)) + (both.key + both.value)
@@ -138,11 +132,6 @@ bytes_join a b = flat_map-append (λ (e : Entry). e.key ++ e.value) a b
 -- and how long they are
 pub lengths_join : (a b : List Entry) → map lengths_of (a ++ b) ≡ map lengths_of a ++ map lengths_of b
 lengths_join a b = map-append lengths_of a b
-
--- the bytes of one entry more
-pub entry_more : (xs : List Entry) (i : ℕ) (k v : List ℕ) → i < length xs → option_map (λ (e : Entry). e.key) (slice_get xs i) ≡ Some k → option_map (λ (e : Entry). e.value) (slice_get xs i) ≡ Some v
-    → bytes_of (take (i + 1) xs) ≡ bytes_of (take i xs) ++ (k ++ v)
-entry_more xs i k v lt key value = bytes_more xs i k v lt key value ∙ append_assoc (bytes_of (take i xs)) k v
 
 -- how many bytes there are with one part more
 pub bytes_on : (all part : List Entry) (i n len sum : ℕ) → (i ≤ length all) × (len ≡ length (bytes_of (take i all))) → take (length part) (drop i all) ≡ part → n ≡ length part → sum ≡ len + length (bytes_of part)

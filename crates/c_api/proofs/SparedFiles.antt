@@ -1,15 +1,14 @@
 -- Deeper files that don't overlap the inputs change nothing of what a merge answers.
-use Rattle.std.proofs.Common.{◌≡◌, ℕ, ◌+◌, Bool, true, false, List, [], ◌∷◌, ◌++◌, map, cond, Option, Some, None, Result, Ok, Err, refl, sym, ap, subst, ◌∙◌, ◌⊎◌, inl, inr}
+use Rattle.std.proofs.Common.{◌≡◌, ℕ, ◌+◌, Bool, true, false, List, [], ◌∷◌, ◌++◌, map, cond, Option, Some, None, Result, Ok, Err, refl, sym, ap, subst, ◌∙◌, inl, inr}
 use Rattle.std.specs.Prelude.{filter, not, nat_le, ◌&&◌, if◌then◌else◌}
-use Rattle.std.specs.List.{AllByRecursion, list_all, list_any}
+use Rattle.std.specs.List.{AllByRecursion, list_all}
 use Rattle.std.specs.Cmp.{IsTotalOrder}
-use Rattle.std.specs.Ordering.{is_le}
 use Rattle.std.specs.declared.cmp.Ordering.{Ordering}
-use Rattle.std.proofs.lemmas.Bool.{and_parts}
+use Rattle.std.proofs.lemmas.Bool.{and_parts, and_from}
+use Rattle.std.proofs.Math.Bool.{and_comm, and_self}
 use Rattle.std.proofs.lemmas.Map.Views.{any-filter_same}
 use Rattle.ikey.specs.Answers.{◌>>=◌, fault}
 use Rattle.ikey.specs.Key.{user_of, sequence_of, kind_of}
-use Rattle.ikey.specs.Order.{internal_cmp}
 use Rattle.ikey.specs.fault.Fault.{Fault}
 use Rattle.ikey.specs.fault.FaultName.TheVariants.{Duplicate}
 use Rattle.edit.specs.declared.meta.FileMeta.{FileMeta}
@@ -30,13 +29,13 @@ use Rattle.keep.specs.declared.mark.Mark.{Mark}
 use Rattle.merge.proofs.Orders.{all_append, all_weaker}
 use Rattle.merge.proofs.Reaching.{table_never_falls}
 use Rattle.merge.proofs.SortedEntries.{all_filter, all_sorted}
-use Rattle.pick.proofs.Lists.{IsIn, and_both, any_from}
+use Rattle.pick.proofs.Lists.{IsIn, any_from, filter_same}
 use Rattle.pick.proofs.UserOrders.{le_refl, le_trans}
 use Rattle.compact.proofs.FileKeys.{user_upto}
 use Rattle.compact.specs.Request.{RequestView, request_test}
 use Rattle.c_api.specs.Files.{has_keys, meta_at}
 use Rattle.c_api.specs.Held.{near_of}
-use Rattle.c_api.specs.InputTables.{AreRead, IsRead, bounds_at, entries_at}
+use Rattle.c_api.specs.InputTables.{AreRead, IsRead, entries_at}
 use Rattle.c_api.specs.Merges.{AskedMerge, are_inputs, grandparents_in, is_lent, merge_reading, request_result, run_reading}
 use Rattle.c_api.specs.Places.{part_at}
 use Rattle.c_api.specs.Ranges.{is_range, range_in}
@@ -44,76 +43,44 @@ use Rattle.c_api.specs.Requests.{files_of, is_of, metas_of, pointed_test, pointe
 use Rattle.c_api.specs.declared.file.File.{File}
 use Rattle.c_api.specs.declared.input.Input.{Input}
 use Rattle.c_api.proofs.CheckedInputs.{bounds_found, entries_found}
-use Rattle.c_api.proofs.Merging.{lent_parts, run_is}
+use Rattle.c_api.proofs.Merging.{lent_parts, run_is, three_true}
 
 -- ---- filters
 
-module _ {A B : Type 0} (f : A → B) (p : A → Bool) (q : B → Bool) where
-  abbrev by_q : List A → List A
-  by_q xs = filter (λ (x : A). q (f x)) xs
+one_more : {A : Type 0} (p : A → Bool) (b : Bool) (x : A) (xs ys : List A) → filter p xs ≡ ys → filter p (cond b (x ∷ xs) xs) ≡ cond (b && p x) (x ∷ ys) ys
+one_more p true x xs ys h = ap (λ (l : List _). cond (p x) (x ∷ l) l) h
+one_more p false x xs ys h = h
 
-  module _ (x : A) (xs : List A) (ih : map f (filter p (by_q xs)) ≡ filter q (map f (filter p xs))) where
-    abbrev here : Bool → List B
-    here c = map f (filter p (cond c (x ∷ by_q xs) (by_q xs)))
+-- what passes one test, and then another
+filter_both : {A : Type 0} (p q : A → Bool) (xs : List A) → filter p (filter q xs) ≡ filter (λ (x : A). q x && p x) xs
+filter_both p q [] = refl
+filter_both {A} p q (x ∷ xs) = one_more p (q x) x (filter q xs) (filter (λ (y : A). q y && p y) xs) (filter_both p q xs)
 
-    abbrev there : Bool → List B
-    there c = filter q (map f (cond c (x ∷ filter p xs) (filter p xs)))
-
-    abbrev passing : Bool → List B
-    passing c = map f (cond c (x ∷ filter p (by_q xs)) (filter p (by_q xs)))
-
-    abbrev imaged : Bool → List B
-    imaged c = cond c (f x ∷ filter q (map f (filter p xs))) (filter q (map f (filter p xs)))
-
-    after : (a b : Bool) → p x ≡ a → q (f x) ≡ b → here b ≡ there a
-    after true true pa qb = ap passing pa ∙ ap (λ (l : List B). f x ∷ l) ih ∙ sym (ap imaged qb)
-    after true false pa qb = ih ∙ sym (ap imaged qb)
-    after false true pa qb = ap passing pa ∙ ih
-    after false false pa qb = ih
-
-    of_both : (a b : Bool) → p x ≡ a → q (f x) ≡ b → here (q (f x)) ≡ there (p x)
-    of_both a b pa qb = ap here qb ∙ after a b pa qb ∙ sym (ap there pa)
-
-  -- what passes a test of its image, and then another test
-  pub map_both : (xs : List A) → map f (filter p (by_q xs)) ≡ filter q (map f (filter p xs))
-  map_both [] = refl
-  map_both (x ∷ xs) = of_both x xs (map_both xs) (p x) (q (f x)) refl refl
-
-module _ {A : Type 0} (q : A → Bool) where
-  module _ (x : A) (xs : List A) (ih : filter q (filter q xs) ≡ filter q xs) where
-    abbrev once : Bool → List A
-    once c = cond c (x ∷ filter q xs) (filter q xs)
-
-    abbrev twice : Bool → List A
-    twice c = cond c (x ∷ filter q (filter q xs)) (filter q (filter q xs))
-
-    once_more : (b : Bool) → q x ≡ b → filter q (once b) ≡ once b
-    once_more true is = ap twice is ∙ ap (λ (l : List A). x ∷ l) ih
-    once_more false is = ih
-
-    by_test : (b : Bool) → q x ≡ b → filter q (once (q x)) ≡ once (q x)
-    by_test b is = ap (λ (c : Bool). filter q (once c)) is ∙ once_more b is ∙ sym (ap once is)
-
-  filter_twice : (xs : List A) → filter q (filter q xs) ≡ filter q xs
-  filter_twice [] = refl
-  filter_twice (x ∷ xs) = by_test x xs (filter_twice xs) (q x) refl
+filter_twice : {A : Type 0} (q : A → Bool) (xs : List A) → filter q (filter q xs) ≡ filter q xs
+filter_twice {A} q xs = filter_both q q xs ∙ filter_same (λ (x : A). q x && q x) q xs (λ x i. and_self (q x))
 
 module _ {A B : Type 0} (f : A → B) (q : B → Bool) where
-  abbrev kept : List A → List A
-  kept xs = filter (λ (x : A). q (f x)) xs
+  abbrev of_image : A → Bool
+  of_image x = q (f x)
 
-  one_image : (c : Bool) (x : A) (xs : List A) → map f (kept xs) ≡ filter q (map f xs)
-      → map f (cond c (x ∷ kept xs) (kept xs)) ≡ cond c (f x ∷ filter q (map f xs)) (filter q (map f xs))
+  one_image : (c : Bool) (x : A) (xs : List A) → map f (filter of_image xs) ≡ filter q (map f xs)
+      → map f (cond c (x ∷ filter of_image xs) (filter of_image xs)) ≡ cond c (f x ∷ filter q (map f xs)) (filter q (map f xs))
   one_image true x xs ih = ap (λ (l : List B). f x ∷ l) ih
   one_image false x xs ih = ih
 
-  map_filter : (xs : List A) → map f (kept xs) ≡ filter q (map f xs)
+  pub map_filter : (xs : List A) → map f (filter of_image xs) ≡ filter q (map f xs)
   map_filter [] = refl
   map_filter (x ∷ xs) = one_image (q (f x)) x xs (map_filter xs)
 
+  -- what passes a test of its image, and then another test
+  pub map_both : (p : A → Bool) (xs : List A) → map f (filter p (filter of_image xs)) ≡ filter q (map f (filter p xs))
+  map_both p xs =
+      ap (map f) (filter_both p of_image xs ∙ filter_same (λ (x : A). of_image x && p x) (λ (x : A). p x && of_image x) xs (λ x i. and_comm (of_image x) (p x)) ∙ sym (filter_both of_image p xs))
+      ∙ map_filter (filter p xs)
+
 -- files that are lent, some of them
 one_lent : {X : Type 0} (test : X → Bool) (c : Bool) (x : X) (xs : List X) → test x ≡ true → list_all test xs ≡ true → list_all test (cond c (x ∷ xs) xs) ≡ true
-one_lent test true x xs h k = and_both (test x) (list_all test xs) h k
+one_lent test true x xs h k = and_from (test x) (list_all test xs) h k
 one_lent test false x xs h k = k
 
 pub some_lent : {X : Type 0} (test keep : X → Bool) (xs : List X) → list_all test xs ≡ true → list_all test (filter keep xs) ≡ true
@@ -121,12 +88,6 @@ some_lent test keep [] h = refl
 some_lent test keep (x ∷ xs) h =
     let p = and_parts (test x) (list_all test xs) h in
     one_lent test (keep x) x (filter keep xs) p.0 (some_lent test keep xs p.1)
-
-three_true : (a b c : Bool) → a ≡ true → b ≡ true → c ≡ true → (a && b && c) ≡ true
-three_true true true true h k l = refl
-three_true true true false h k l = absurd cc
-three_true true false c h k l = absurd cc
-three_true false b c h k l = absurd cc
 
 -- ---- the run of entries that meet the ranges of the same files
 
@@ -227,7 +188,7 @@ module _ (cmp : List ℕ → List ℕ → Ordering) (m : AskedMerge) where
 
   -- the grandparents are those of a level
   pub level_near : (level : ℕ) → metas_of m.keys level few_of.deeper ≡ filter near (metas_of m.keys level m.deeper)
-  level_near level = map_both (meta_at m.keys) (is_of level) near m.deeper
+  level_near level = map_both (meta_at m.keys) near (is_of level) m.deeper
 
   grandparents_few : grandparents_in cmp few_of ≡ grandparents_in cmp m
   grandparents_few =
@@ -272,7 +233,7 @@ module _ (cmp : List ℕ → List ℕ → Ordering) (m : AskedMerge) where
     overlapped i inside e b f h =
         let u = user_of e.key in
         let p = and_parts (is_at_most cmp (user_of f.smallest) u) (is_at_most cmp u (user_of f.largest)) h in
-        and_both (begins_by cmp metas (user_of f.largest)) (ends_at_or_after cmp metas (user_of f.smallest))
+        and_from (begins_by cmp metas (user_of f.largest)) (ends_at_or_after cmp metas (user_of f.smallest))
         (any_from (λ (g : FileMeta). is_at_most cmp (user_of g.smallest) (user_of f.largest)) metas i inside (le_trans cmp total (user_of i.smallest) u (user_of f.largest) b.0 p.1))
         (any_from (λ (g : FileMeta). is_at_most cmp (user_of f.smallest) (user_of g.largest)) metas i inside (le_trans cmp total (user_of f.smallest) u (user_of i.largest) p.0 b.1))
 

@@ -1,41 +1,29 @@
 -- The tests of entries, one after the other.
-use Rattle.std.proofs.Common.{Bor, ◌≡◌, ℕ, ◌+◌, ◌<◌, Bool, true, List, [], ◌∷◌, ◌++◌, map, take, drop, length, get_or, Option, None, Some, Result, Ok, refl, sym, ap, ◌∙◌, append_assoc}
+use Rattle.std.proofs.Common.{Bor, ◌≡◌, ℕ, ◌+◌, ◌<◌, List, [], ◌∷◌, ◌++◌, map, take, drop, length, get_or, Option, None, Some, Result, Ok, refl, sym, ap, ◌∙◌, append_assoc}
 use Rattle.std.specs.declared.cmp.Ordering.{Ordering}
 use Rattle.ikey.specs.Answers.{◌>>=◌}
 use Rattle.ikey.specs.fault.Fault.{Fault}
 use Rattle.table.specs.EncodedEntry.{Entry}
 use Rattle.table.specs.EntryTests.{entry_test, entries_test, last_key_after}
-use Rattle.reads.specs.BuilderView.{last_key}
-use Rattle.std.specs.List.{list_all}
-use Rattle.std.proofs.lemmas.Bool.{and_parts}
 use Rattle.std.proofs.lemmas.List.{drop_more, take_more, map-append}
 use Rattle.c_api.specs.Requests.{no_table}
 use Rattle.c_api.specs.declared.file.File.{File}
-use Rattle.c_api.specs.declared.place.Place.{Place}
-
-last_key_pushed : (before : List ℕ) (es : List Entry) (e : Entry) → last_key before (es ++ e ∷ []) ≡ e.key
-last_key_pushed before [] e = refl
-last_key_pushed before (x ∷ es) e = last_key_pushed x.key es e
+use Rattle.keep.proofs.LastKept.{last_pushed}
+use Rattle.c_api.proofs.CheckedInputs.{no_input}
 
 -- the last key after one more entry
-pub last_pushed : (before : Option (List ℕ)) (es : List Entry) (e : Entry) → last_key_after before (es ++ e ∷ []) ≡ Some e.key
-last_pushed before [] e = refl
-last_pushed before (x ∷ es) e = let some : List ℕ → Option (List ℕ) = λ k. Some k in ap some (last_key_pushed x.key es e)
+pub next_pushed : (before : Option (List ℕ)) (es : List Entry) (e : Entry) → last_key_after before (es ++ e ∷ []) ≡ Some e.key
+next_pushed before [] e = refl
+next_pushed before (x ∷ es) e = let some : List ℕ → Option (List ℕ) = λ k. Some k in ap some (last_pushed x.key es e)
 
 -- an entry that passed its tests leaves those of the rest
 pub tested_on : (cmp : List ℕ → List ℕ → Ordering) (done : List Entry) (e : Entry) (rest : List Entry) → entry_test cmp (last_key_after None done) e ≡ Ok tt
     → entries_test cmp (last_key_after None done) (e ∷ rest) ≡ entries_test cmp (last_key_after None (done ++ e ∷ [])) rest
 tested_on cmp done e rest h =
     ap (λ (r : Result (Unit {0}) Fault). r >>= λ _. entries_test cmp (Some e.key) rest) h
-    ∙ ap (λ (k : Option (List ℕ)). entries_test cmp k rest) (sym (last_pushed None done e))
+    ∙ ap (λ (k : Option (List ℕ)). entries_test cmp k rest) (sym (next_pushed None done e))
 
 -- ---- the empty tables of inputs
-
-no_place : Place
-no_place = record { from = 0; len = 0 }
-
-no_file : File
-no_file = record { level = 0; number = 0; size = 0; smallest = no_place; largest = no_place }
 
 -- one more of them
 pub tables_more : (done new : List (Bor (List ℕ))) (table : Bor (List ℕ)) (files : List File) (i : ℕ) → i < length files → new ≡ done ++ table ∷ [] → map (λ (t : Bor (List ℕ)). t.now) done ≡ map no_table (take i files) → table.now ≡ []
@@ -45,15 +33,11 @@ tables_more done new table files i lt pushed front own =
     ap (map now) pushed ∙ map-append now done (table ∷ [])
     ∙ ap (λ (ts : List (List ℕ)). ts ++ table.now ∷ []) front
     ∙ ap (λ (t : List ℕ). map no_table (take i files) ++ t ∷ []) own
-    ∙ sym (ap (map no_table) (take_more files i no_file lt) ∙ map-append no_table (take i files) (get_or files i no_file ∷ []))
+    ∙ sym (ap (map no_table) (take_more files i no_input.file lt) ∙ map-append no_table (take i files) (get_or files i no_input.file ∷ []))
 
 -- ---- one more entry of a list, as it is added
 
 module _ {X : Type 0} (F : X → Entry) (all : List X) (i : ℕ) (d : X) (lt : i < length all) where
-  -- a test of all that are left
-  pub lent_more : (P : X → Bool) → list_all P (drop i all) ≡ true → (P (get_or all i d) ≡ true) × (list_all P (drop (i + 1) all) ≡ true)
-  lent_more P h = and_parts (P (get_or all i d)) (list_all P (drop (i + 1) all)) (sym (ap (list_all P) (drop_more all i d lt)) ∙ h)
-
   -- those that are added, and then those that are left
   pub all_more : (done new : List Entry) (x : Entry) → new ≡ done ++ x ∷ [] → x ≡ F (get_or all i d) → done ++ map F (drop i all) ≡ map F all → new ++ map F (drop (i + 1) all) ≡ map F all
   all_more done new x pushed own h =

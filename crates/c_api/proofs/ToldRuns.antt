@@ -1,17 +1,15 @@
 -- Runs that are told, entry by entry and mark by mark.
 use Rattle.std.proofs.Common.{◌≡◌, ℕ, suc, ◌+◌, ◌-◌, ◌<◌, ◌≤◌, true, List, [], ◌∷◌, ◌++◌, map, drop, length, get_or, refl, sym, ap, subst, ◌∙◌, arith, append_assoc, append-nil}
 use Rattle.std.specs.Prelude.{nat_le}
-use Rattle.std.proofs.lemmas.Bool.{and_parts, leb-true}
+use Rattle.std.proofs.lemmas.Bool.{and_parts, leb-true, and_from}
 use Rattle.std.proofs.lemmas.List.{at_drop_more, drop_all, drop_more, length-append}
 use Rattle.reads.specs.EncodedEntry.{Entry}
 use Rattle.keep.specs.Runs.{Run}
 use Rattle.keep.specs.declared.mark.Mark.{Mark}
-use Rattle.c_api.specs.Runs.{rooms}
-use Rattle.c_api.specs.ToldRuns.{are_entries, are_marks, begins_entry, after_entry, entries_told, first_entry, mark_told, run_told}
+use Rattle.c_api.specs.ToldRuns.{are_entries, are_marks, begins_entry, after_entry, entries_told, first_entry, mark_told}
 use Rattle.c_api.specs.Held.{entries_passed}
 use Rattle.c_api.specs.declared.run_arrays.EntryLengths.{EntryLengths}
 use Rattle.c_api.specs.declared.run_arrays.RunMark.{RunMark}
-use Rattle.c_api.proofs.Merging.{both_true}
 
 abbrev pub no_lengths : EntryLengths
 no_lengths = record { key = 0; value = 0 }
@@ -30,7 +28,7 @@ pub front_lies : (bytes : List ℕ) (xs ys : List EntryLengths) → are_entries 
 front_lies bytes [] ys h = refl
 front_lies bytes (x ∷ xs) ys h =
     let p = and_parts (begins_entry bytes x) (are_entries (after_entry bytes x) (xs ++ ys)) h in
-    both_true (begins_entry bytes x) (are_entries (after_entry bytes x) xs) p.0 (front_lies (after_entry bytes x) xs ys p.1)
+    and_from (begins_entry bytes x) (are_entries (after_entry bytes x) xs) p.0 (front_lies (after_entry bytes x) xs ys p.1)
 
 pub rest_lies : (bytes : List ℕ) (xs ys : List EntryLengths) → are_entries bytes (xs ++ ys) ≡ true → are_entries (entries_passed bytes xs) ys ≡ true
 rest_lies bytes [] ys h = h
@@ -174,11 +172,3 @@ module _ (bytes : List ℕ) (lengths : List EntryLengths) (ms : List RunMark) (r
               ∙ ap (λ (l : List RunMark). run.marks ++ map mark_told l) (sym (drop_more ms i no_mark lt))
               ∙ so.marks;
         }
-
-  pub read_all : length ms ≤ i → (after : Run) → after ≡ with_kept run (entries_told rest left) → after ≡ run_told (rooms bytes lengths ms)
-  read_all le after pushed =
-      let none : drop i ms ≡ [] = drop_all i ms le in
-      let marks : run.marks ≡ map mark_told ms = sym (append-nil run.marks) ∙ ap (λ (l : List RunMark). run.marks ++ map mark_told l) (sym none) ∙ so.marks in
-      pushed
-      ∙ ap (λ (es : List Entry). let r : Run = record { kept = es; marks = run.marks } in r) so.kept
-      ∙ ap (λ (l : List Mark). let r : Run = record { kept = entries_told bytes lengths; marks = l } in r) marks

@@ -15,6 +15,7 @@ use Rattle.c_api.specs.Codes.{coded}
 use Rattle.c_api.specs.Merges.{are_inputs}
 use Rattle.c_api.specs.Orders.{by_order}
 use Rattle.c_api.specs.Places.{part_at}
+use Rattle.c_api.specs.Rooms.{IsRefused}
 use Rattle.c_api.specs.declared.code.TheConstants.{MEMORY, MISUSE, ROOM}
 use Rattle.c_api.specs.declared.input.Input.{Input}
 use Rattle.c_api.specs.declared.key_arrays.KeysSize.{KeysSize}
@@ -106,11 +107,6 @@ AreKeysPut code old new size a = (size ≡ size_of_keys a)
     × MatchBool (have_room old a) ((code ≡ 0) × (new ≡ rooms_after old a))
     ((code ≡ ROOM) × (new ≡ old))
 
--- they say this refusal, and nothing is changed
-abbrev pub AreKeysRefused : ℕ → KeyArrays → KeyArrays → KeysSize → KeysSize → ℕ → Type 0
-AreKeysRefused code old new size_old size_new number =
-    (code ≡ number) × (new ≡ old) × (size_new ≡ size_old)
-
 -- they say boundaries of what is asked, or the first test that it fails
 abbrev pub AreBoundariesWritten : AskedBoundaries → Result (Unit {0}) ℕ → ℕ → KeyArrays → KeyArrays
     → KeysSize → KeysSize → Type 0
@@ -118,11 +114,11 @@ AreBoundariesWritten m (Ok none) code old new size_old size_new =
     (boundaries : List (List ℕ)) × AreBoundaries m boundaries
     × AreKeysPut code old new size_new (arrays_of_keys boundaries)
 AreBoundariesWritten m (Err n) code old new size_old size_new =
-    AreKeysRefused code old new size_old size_new n
+    IsRefused code old new size_old size_new n
 
 -- the same, or 99 for want of memory, and nothing is changed
 abbrev pub AreBoundariesWrittenOrMemory : AskedBoundaries → ℕ → KeyArrays → KeyArrays → KeysSize →
     KeysSize → Type 0
 AreBoundariesWrittenOrMemory m code old new size_old size_new =
     AreBoundariesWritten m (boundaries_test m) code old new size_old size_new
-    ⊎ AreKeysRefused code old new size_old size_new MEMORY
+    ⊎ IsRefused code old new size_old size_new MEMORY

@@ -4,6 +4,7 @@ use Rattle.std.specs.Prelude.{map, flat_map, Result, Ok, Err}
 use Rattle.reads.specs.EncodedEntry.{Entry}
 use Rattle.keep.specs.Runs.{Run}
 use Rattle.keep.specs.declared.mark.Mark.{Mark}
+use Rattle.c_api.specs.Rooms.{IsRefused}
 use Rattle.c_api.specs.declared.code.TheConstants.{MEMORY, ROOM}
 use Rattle.c_api.specs.declared.run_arrays.EntryLengths.{EntryLengths}
 use Rattle.c_api.specs.declared.run_arrays.RunMark.{RunMark}
@@ -59,20 +60,14 @@ IsRunPut code old new size a = (size ≡ size_of a)
     × MatchBool (has_room old a) ((code ≡ 0) × (new ≡ rooms_with old a))
     ((code ≡ ROOM) × (new ≡ old))
 
--- they say that memory was refused: 99, and nothing is changed
-abbrev pub IsRunRefused : ℕ → Arrays → Arrays → RunSize → RunSize → Type 0
-IsRunRefused code old new size_old size_new =
-    (code ≡ MEMORY) × (new ≡ old) × (size_new ≡ size_old)
-
 -- they say this answer: the arrays of its run, or the refusal's number, and nothing is changed
 abbrev pub IsRunWritten : ℕ → Arrays → Arrays → RunSize → RunSize → Result Run ℕ → Type 0
 IsRunWritten code old new size_old size_new (Ok run) =
     IsRunPut code old new size_new (arrays_of run)
-IsRunWritten code old new size_old size_new (Err n) =
-    (code ≡ n) × (new ≡ old) × (size_new ≡ size_old)
+IsRunWritten code old new size_old size_new (Err n) = IsRefused code old new size_old size_new n
 
 -- the same, or 99 for want of memory, and nothing is changed
 abbrev pub IsRunWrittenOrMemory : ℕ → Arrays → Arrays → RunSize → RunSize → Result Run ℕ → Type 0
 IsRunWrittenOrMemory code old new size_old size_new answer =
     IsRunWritten code old new size_old size_new answer
-    ⊎ IsRunRefused code old new size_old size_new
+    ⊎ IsRefused code old new size_old size_new MEMORY

@@ -21,6 +21,7 @@ use edit::{CompactPointer, FileMeta};
 use ikey::{Comparator, Fault, KeyBuf};
 use pick::{InputFile, Inputs, LAST_INPUT_LEVEL};
 use std::alloc::Global;
+use std::sync::Arc;
 
 /// The files of inputs.
 pub(crate) fn files_of(alloc: Global, inputs: &[Input]) -> Result<Vec<File>, Fault>
@@ -249,7 +250,7 @@ pub(crate) fn tested_inputs<C: Comparator>(
         level,
         files: input_files(alloc, asked.lent.keys, asked.files)?,
         grandparents: grandparents_of::<C>(alloc, asked)?,
-        deeper: Vec::new(alloc),
+        deeper: Arc::new(alloc, Vec::new(alloc))?,
         pointer: CompactPointer {
             level,
             key: pointer,
@@ -267,6 +268,6 @@ pub(crate) fn picked_with<C: Comparator>(
     ensures { EqualOrMemory picked_in result (Ok (picked_over C.cmp asked.now pointer)) }
 {
     let mut picked = tested_inputs::<C>(alloc, asked, pointer)?;
-    picked.deeper = metas_at(alloc, asked.lent.keys, asked.lent.deeper)?;
+    picked.deeper = Arc::new(alloc, metas_at(alloc, asked.lent.keys, asked.lent.deeper)?)?;
     Ok(picked)
 }

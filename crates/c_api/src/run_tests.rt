@@ -1,6 +1,6 @@
 //! Each call about runs and outputs once, with bytes that another program wrote.
 
-use crate::tests::{EVERYTHING, KEYS, REQUEST, TWO_ENTRIES, lent, two_entries};
+use crate::tests::{KEYS, LENT, REQUEST, TWO_ENTRIES, lent, two_entries};
 use crate::{
     DONE, Entry, EntryLengths, HostRequest, Lent, LentArrays, LentRuns, MISUSE, Place,
     PlannedOutput, ROOM, RunMark, RunPlaces, RunSize, proved_check_table, proved_merge,
@@ -23,14 +23,9 @@ fn ranges_are_merged(rt: HostRuntime) {
     assert!(rt; code == DONE);
     let inputs = [input];
     let asked = Lent {
-        size: 0,
         request,
-        snapshots: &[],
-        keys: KEYS,
-        tables: TWO_ENTRIES,
         inputs: &inputs,
-        deeper: &[],
-        range: EVERYTHING,
+        ..LENT
     };
     let mut bytes = [7; 20];
     let mut lengths = [EntryLengths { key: 7, value: 7 }; 2];

@@ -76,27 +76,26 @@ pub(crate) const REQUEST: HostRequest = HostRequest {
     first_number: 7,
 };
 
-const NOWHERE: Place = Place { from: 0, len: 0 };
-
-pub(crate) const EVERYTHING: UserRange = UserRange {
-    has_lower: 0,
-    has_upper: 0,
-    lower: NOWHERE,
-    upper: NOWHERE,
+/// What is lent without an input, if all of them are merged.
+pub(crate) const LENT: Lent<'static, 'static> = Lent {
+    size: 0,
+    request: REQUEST,
+    snapshots: &[],
+    keys: KEYS,
+    tables: TWO_ENTRIES,
+    inputs: &[],
+    deeper: &[],
+    range: UserRange {
+        has_lower: 0,
+        has_upper: 0,
+        lower: Place { from: 0, len: 0 },
+        upper: Place { from: 0, len: 0 },
+    },
 };
 
-/// What is lent for these inputs, if the whole of them is merged.
+/// The same with these inputs.
 pub(crate) fn lent(inputs: &[Input]) -> Lent<'_, 'static> {
-    Lent {
-        size: 0,
-        request: REQUEST,
-        snapshots: &[],
-        keys: KEYS,
-        tables: TWO_ENTRIES,
-        inputs,
-        deeper: &[],
-        range: EVERYTHING,
-    }
+    Lent { inputs, ..LENT }
 }
 
 /// The answer to a request of this level.
@@ -130,14 +129,8 @@ fn boundaries_are_chosen(rt: HostRuntime) {
     let mut size = KeysSize { bytes: 7, keys: 7 };
     // The index has one key, the user key u.
     let asked = Lent {
-        size: 0,
-        request: REQUEST,
-        snapshots: &[],
-        keys: KEYS,
-        tables: TWO_ENTRIES,
         inputs: &inputs,
-        deeper: &[],
-        range: EVERYTHING,
+        ..LENT
     };
     let code = proved_boundaries(alloc, &asked, 2, &mut bytes, &mut lengths, &mut size);
     assert_eq!(rt; code, DONE);

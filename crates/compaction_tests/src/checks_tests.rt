@@ -1,4 +1,5 @@
-use crate::tested_tables::version_after;
+use crate::compact_tests::tables::U4_DELETED_U2;
+use crate::tested_tables::{A_AT_THREE, version_after};
 use board::Open;
 use checks::*;
 use coding::{Fault, FaultName};
@@ -8,19 +9,6 @@ use std::alloc::Global;
 use std::process::Abort;
 use std::test::*;
 use std::thread::Threads;
-
-/// `table: a@3 put -`
-const ONE_ENTRY: &[u8] = b"\
-    \0\x09\0a\x01\x03\0\0\0\0\0\0\0\0\0\0\x01\0\0\0\0E\xed\x3a\x01\0\0\0\0\x01\0\0\0\0\xc0\xf2\xa1\
-    \xb0\0\x09\x02a\x01\x03\0\0\0\0\0\0\0\x14\0\0\0\0\x01\0\0\0\0.\xe0\xc8\x85\x19\x08\x26\x16\0\0\
-    \0\0\0\0\0\0\0\0\0\0\0\0\0\0\0\0\0\0\0\0\0\0\0\0\0\0\0\0\0\0\0\0\0\0W\xfb\x80\x8b\x24uG\xdb";
-
-/// `table: u@4 del, u@2 put x`
-const TWO_ENTRIES: &[u8] = b"\
-    \0\x09\0u\0\x04\0\0\0\0\0\0\x01\x08\x01\x01\x02\0\0\0\0\0\0x\0\0\0\0\x01\0\0\0\0\xef\xe0\xe5\
-    \x28\0\0\0\0\x01\0\0\0\0\xc0\xf2\xa1\xb0\0\x09\x02u\x01\x02\0\0\0\0\0\0\0\x20\0\0\0\0\x01\0\0\
-    \0\0\x0a\xb0\x5c\x0c\x25\x082\x16\0\0\0\0\0\0\0\0\0\0\0\0\0\0\0\0\0\0\0\0\0\0\0\0\0\0\0\0\0\0\
-    \0\0\0\0\0\0W\xfb\x80\x8b\x24uG\xdb";
 
 /// Bytes that are too short for a table.
 const DAMAGED: &[u8] = b"damaged";
@@ -59,25 +47,25 @@ const ROWS: &[Row] = &[
     Row {
         name: "in order, which is not that of their numbers",
         edit: None,
-        tables: &[(8, ONE_ENTRY), (7, TWO_ENTRIES), (9, ONE_ENTRY)],
+        tables: &[(8, A_AT_THREE), (7, U4_DELETED_U2), (9, A_AT_THREE)],
         told: Ok(&[(8, 3), (7, 4), (9, 3)]),
     },
     Row {
         name: "the first of two refusals",
         edit: None,
-        tables: &[(8, ONE_ENTRY), (7, DAMAGED), (9, BLANK)],
+        tables: &[(8, A_AT_THREE), (7, DAMAGED), (9, BLANK)],
         told: Err(FaultName::Short),
     },
     Row {
         name: "a lawful version",
         edit: Some(ONE_FILE),
-        tables: &[(7, TWO_ENTRIES)],
+        tables: &[(7, U4_DELETED_U2)],
         told: Ok(&[(7, 4)]),
     },
     Row {
         name: "a file that is not so long",
         edit: Some(LONGER_FILE),
-        tables: &[(7, TWO_ENTRIES)],
+        tables: &[(7, U4_DELETED_U2)],
         told: Err(FaultName::Lawless),
     },
 ];

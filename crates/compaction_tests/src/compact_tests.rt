@@ -3,6 +3,6 @@
 mod edits;
 mod gates;
 mod refused_rows;
-mod rows;
+pub(crate) mod rows;
 pub(crate) mod tables;
-mod tests;
+pub(crate) mod tests;

@@ -6,17 +6,17 @@ ghost use Rattle.cut.specs.Plan.{encoded_blocks};
 ghost use Rattle.cut.specs.OutputPlan.{lists_in};
 
 use crate::compact_tests::tables::{A, B, C, C_DELETED};
-use crate::tested_tables::version_after;
+use crate::tested_tables::{are_tables, inputs_after, push_cursors};
 use coding::Fault;
 use cut::{Plan, plan};
 use ikey::Bytewise;
 use keep::{RangeRun, is_rising, largest_rise, merge_range};
-use pick::{Inputs, inputs};
+use pick::Inputs;
 use split::Range;
 use std::alloc::Global;
 use std::process::Abort;
 use std::test::*;
-use table::{Options, TableCursor, check};
+use table::Options;
 
 /// `table: a@1 put x, b@2 put x, c@3 put x`
 const A_B_C: &[u8] = b"\
@@ -60,11 +60,6 @@ const OUTPUTS: &[Output] = &[(5, A), (6, B), (7, C)];
 /// The length of a data block of one entry, with its trailer.
 const BLOCK_LEN: usize = 26;
 
-/// The inputs of level 0 of the version of one file, without grandparents.
-fn picked(rt: &impl Abort, alloc: Global) -> Inputs {
-    inputs::<Bytewise>(alloc, &version_after(rt, alloc, ALONE), 0).expect(rt, "inputs")
-}
-
 /// The run of a table in a range.
 fn run_of<'a>(
     rt: &impl Abort,
@@ -74,10 +69,8 @@ fn run_of<'a>(
     inputs: &Inputs,
 ) -> RangeRun<'a> {
     assert!(rt; is_rising(&[]) && largest_rise::<Bytewise>(&inputs.grandparents));
-    let table = check::<Bytewise>(alloc, table).expect(rt, "a table");
-    let cursor = TableCursor::new(alloc, &table).expect(rt, "memory");
     let mut cursors = Vec::new(alloc);
-    cursors.push(cursor).expect(rt, "memory");
+    push_cursors(rt, alloc, &mut cursors, &[table]);
     merge_range::<Bytewise, _>(alloc, &mut cursors, range, &[], LAST, inputs).expect(rt, "a run")
 }
 
@@ -117,16 +110,6 @@ fn are_blocks(blocks: &[Vec<u8>], outputs: &[Output]) -> bool {
         }
     }
     blocks.len() == outputs.len()
-}
-
-/// Whether tables, joined of data blocks, are these outputs.
-fn are_joined(tables: &[(u64, Vec<u8>)], outputs: &[Output]) -> bool {
-    for (table, output) in tables.iter().zip(outputs) {
-        if table.0 != output.0 || table.1.as_slice() != output.1 {
-            return false;
-        }
-    }
-    tables.len() == outputs.len()
 }
 
 /// Whether the output at `place` is told and made as this one.
@@ -172,13 +155,13 @@ fn has_blocks(
     let blocks = encoded(alloc, plan)?;
     let are_right = are_blocks(&blocks, outputs);
     let tables = plan.assemble(alloc, blocks).expect(rt, "memory");
-    Ok(are_right && are_joined(&tables, outputs))
+    Ok(are_right && are_tables(&tables, outputs))
 }
 
 /// Whether the plan of a table has these outputs.
 fn is_planned(rt: &impl Abort, alloc: Global, table: &[u8], outputs: &[Output]) -> bool {
     assert!(rt; SMALLEST.are_in_limits());
-    let inputs = picked(rt, alloc);
+    let inputs = inputs_after(rt, alloc, ALONE, 0);
     let runs = runs_of(rt, alloc, table, &inputs);
     let files = &inputs.grandparents;
     let plan = plan::<Bytewise>(alloc, &runs, files, SMALLEST, 5).expect(rt, "a plan");

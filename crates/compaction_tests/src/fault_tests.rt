@@ -1,9 +1,10 @@
 //! All that is wrong with versions, with the tables of a folder in one range of user keys and in
 //! several.
 
+use crate::compact_tests::tables::U9;
 use crate::tested_tables::{
-    A_AND_U, A_AT_THREE, B_AT_TWO, OLDER_ABOVE, SEVERAL_RANGES, SHARED_KEY, U_AT_NINE, U_AT_ONE,
-    U_AT_SEVEN, opened_after,
+    A_AND_U, A_AT_THREE, B_AT_TWO, BUDGETS, Held, OLDER_ABOVE, OLDER_VALUES, SEVERAL_RANGES,
+    SHARED_KEY, U_AT_ONE, U_AT_SEVEN, opened_after,
 };
 use board::Open;
 use checks::{checkers, test_version};
@@ -42,9 +43,6 @@ const OUT_OF_ORDER: &[u8] = b"\
     \0\0\0\0\0\x09a\x01\x03\0\0\0\0\0\0\x07\x02\x0br\x09u\x01\x07\0\0\0\0\0\0\x09u\x01\x07\0\0\0\0\
     \0\0";
 
-/// A file of a folder: its name and its bytes.
-type Held = (&'static str, &'static [u8]);
-
 /// A version, the files of a folder, after how many faults the taker says to stop, those that are
 /// told, and how many these are. Keys are told by their first byte.
 #[derive(Clone, Copy)]
@@ -63,7 +61,7 @@ const ALL_THERE: &[Held] = &[
     ("000010.ldb", A_AT_THREE),
     ("000011.ldb", B_AT_TWO),
     ("000012.sst", U_AT_SEVEN),
-    ("000013.ldb", U_AT_NINE),
+    ("000013.ldb", U9),
 ];
 
 /// The files of [`OUT_OF_ORDER`].
@@ -71,7 +69,7 @@ const DISORDERED: &[Held] = &[
     ("000009.ldb", A_AND_U),
     ("000010.ldb", A_AT_THREE),
     ("000011.ldb", U_AT_SEVEN),
-    ("000012.ldb", U_AT_NINE),
+    ("000012.ldb", U9),
     ("000013.ldb", U_AT_ONE),
 ];
 
@@ -122,7 +120,7 @@ const ROWS: &[Row] = &[
         files: &[
             ("000009.ldb", A_AND_U),
             ("000011.ldb", B_AT_TWO),
-            ("000012.ldb", U_AT_NINE),
+            ("000012.ldb", U9),
         ],
         told: "9 Overlaps(11), 9 Overlaps(12), key 117 9 12, ",
         count: 3,
@@ -131,13 +129,7 @@ const ROWS: &[Row] = &[
     Row {
         name: "an older entry above a newer one",
         edit: OLDER_ABOVE,
-        files: &[
-            ("000009.ldb", A_AND_U),
-            ("000010.ldb", A_AT_THREE),
-            ("000011.ldb", B_AT_TWO),
-            ("000012.ldb", U_AT_NINE),
-            ("000013.ldb", U_AT_SEVEN),
-        ],
+        files: OLDER_VALUES,
         told: "key 117 13 12, ",
         count: 1,
         ..PLAIN
@@ -159,9 +151,6 @@ const ROWS: &[Row] = &[
         count: 1,
     },
 ];
-
-/// Budgets of memory: one range for each user key, several, and one for all.
-const BUDGETS: &[u64] = &[1, 300, 1 << 30];
 
 /// Who collects faults, and says to stop after some.
 #[derive(Drop)]

@@ -1,7 +1,8 @@
 //! Which entries of a range are kept. Rows of `compact_tests` have more lists of snapshots, and
 //! deletions.
 
-use crate::tested_tables::version_after;
+use crate::compact_tests::tables::{A_U, U9_U5_U3};
+use crate::tested_tables::{inputs_after, push_cursors};
 use coding::{Fault, FaultName};
 use ikey::{Bytewise, Kind};
 use keep::{
@@ -9,7 +10,7 @@ use keep::{
     range_start_law, ranges_compose,
 };
 use merge::{cursor_from, holds_law, seek_range, starts_before};
-use pick::{Inputs, inputs};
+use pick::Inputs;
 use split::Range;
 use std::alloc::Global;
 use std::process::Abort;
@@ -18,26 +19,12 @@ use table::{Cursor, TableCursor, check};
 
 // Tables and edits in LevelDB's formats, one line for each block, footer or file.
 
-/// `table: u@9 put x, u@5 put x, u@3 put x`
-const NINE_FIVE_THREE: &[u8] = b"\
-    \0\x09\x01u\x01\x09\0\0\0\0\0\0x\x02\x07\x01\x05\0\0\0\0\0\0x\x02\x07\x01\x03\0\0\0\0\0\0x\0\0\
-    \0\0\x01\0\0\0\0qX\xd4\xc0\0\0\0\0\x01\0\0\0\0\xc0\xf2\xa1\xb0\0\x09\x02u\x01\x03\0\0\0\0\0\0\
-    \0\x2b\0\0\0\0\x01\0\0\0\0P\xd12\xf20\x08\x3d\x16\0\0\0\0\0\0\0\0\0\0\0\0\0\0\0\0\0\0\0\0\0\0\
-    \0\0\0\0\0\0\0\0\0\0\0\0\0\0W\xfb\x80\x8b\x24uG\xdb";
-
 /// `table: u@5 put x, u@5 del`
 const TWICE: &[u8] = b"\
     \0\x09\x01u\x01\x05\0\0\0\0\0\0x\x01\x08\0\0\x05\0\0\0\0\0\0\0\0\0\0\x01\0\0\0\0\x86\x06\x7e\
     \x91\0\0\0\0\x01\0\0\0\0\xc0\xf2\xa1\xb0\0\x09\x02u\0\x05\0\0\0\0\0\0\0\x20\0\0\0\0\x01\0\0\0\
     \0R\xda7\x90\x25\x082\x16\0\0\0\0\0\0\0\0\0\0\0\0\0\0\0\0\0\0\0\0\0\0\0\0\0\0\0\0\0\0\0\0\0\0\
     \0\0W\xfb\x80\x8b\x24uG\xdb";
-
-/// `table: a@1 put x, u@5 put x`
-const A_AND_U: &[u8] = b"\
-    \0\x09\x01a\x01\x01\0\0\0\0\0\0x\0\x09\x01u\x01\x05\0\0\0\0\0\0x\0\0\0\0\x01\0\0\0\0\xd5\xa5d\
-    \x91\0\0\0\0\x01\0\0\0\0\xc0\xf2\xa1\xb0\0\x09\x02u\x01\x05\0\0\0\0\0\0\0\x22\0\0\0\0\x01\0\0\
-    \0\0e\xa6\x8f\x19\x27\x084\x16\0\0\0\0\0\0\0\0\0\0\0\0\0\0\0\0\0\0\0\0\0\0\0\0\0\0\0\0\0\0\0\0\
-    \0\0\0\0W\xfb\x80\x8b\x24uG\xdb";
 
 /// `table: u@9 put x, z@2 put x`
 const U_AND_Z: &[u8] = b"\
@@ -95,14 +82,14 @@ const FROM_Z: Range<'static> = Range {
 const ROWS: &[Row] = &[
     // Values of one user key.
     (
-        &[NINE_FIVE_THREE],
+        &[U9_U5_U3],
         ALONE,
         Snapshots::From(5),
         9,
         &[(ALL, false, Some(&[9, 5]), 0)],
     ),
     (
-        &[NINE_FIVE_THREE],
+        &[U9_U5_U3],
         ALONE,
         Snapshots::From(9),
         9,
@@ -110,7 +97,7 @@ const ROWS: &[Row] = &[
     ),
     // Three ranges of the same cursors, and one that is sought.
     (
-        &[A_AND_U, U_AND_Z],
+        &[A_U, U_AND_Z],
         OVER_M,
         Snapshots::From(1),
         9,
@@ -121,7 +108,7 @@ const ROWS: &[Row] = &[
         ],
     ),
     (
-        &[A_AND_U, U_AND_Z],
+        &[A_U, U_AND_Z],
         ALONE,
         Snapshots::From(9),
         9,
@@ -136,30 +123,6 @@ const ROWS: &[Row] = &[
         &[(ALL, false, None, 0)],
     ),
 ];
-
-/// The inputs of a compaction of level 1 of the version that an edit makes of the empty one.
-fn inputs_of(rt: &impl Abort, alloc: Global, edit: &[u8]) -> Inputs {
-    inputs::<Bytewise>(alloc, &version_after(rt, alloc, edit), 1).expect(rt, "inputs")
-}
-
-/// The cursor over a table.
-fn cursor(rt: &impl Abort, alloc: Global, bytes: &'static [u8]) -> TableCursor<'static, Bytewise> {
-    let table = check::<Bytewise>(alloc, bytes).expect(rt, "a table");
-    TableCursor::new(alloc, &table).expect(rt, "memory")
-}
-
-/// The cursors over tables.
-fn cursors_of(
-    rt: &impl Abort,
-    alloc: Global,
-    tables: &[&'static [u8]],
-) -> Vec<TableCursor<'static, Bytewise>> {
-    let mut cursors = Vec::new(alloc);
-    for bytes in tables {
-        cursors.push(cursor(rt, alloc, bytes)).expect(rt, "memory");
-    }
-    cursors
-}
 
 /// Whether a cursor seeks a range, and is at its lower bound after that.
 fn seeks(
@@ -255,15 +218,16 @@ fn are_merged(
 
 /// Whether a row is merged as it says.
 fn is_kept(rt: &impl Abort, alloc: Global, row: &Row) -> bool {
-    let inputs = inputs_of(rt, alloc, row.1);
-    let mut cursors = cursors_of(rt, alloc, row.0);
+    let inputs = inputs_after(rt, alloc, row.1, 1);
+    let mut cursors = Vec::new(alloc);
+    push_cursors(rt, alloc, &mut cursors, row.0);
     are_merged(alloc, &mut cursors, row, &inputs)
 }
 
 /// Whether a cursor over the table of `a` and `u`, made for the user keys from `b` on, begins at
 /// `u`, which comes before no `u`.
 fn begins_at_u(rt: &impl Abort, alloc: Global) -> bool {
-    let table = check::<Bytewise>(alloc, A_AND_U).expect(rt, "a table");
+    let table = check::<Bytewise>(alloc, A_U).expect(rt, "a table");
     let range = Range {
         lower: Some(b"b"),
         upper: None,

@@ -1,15 +1,11 @@
+use crate::compact_tests::tables::A;
+use crate::tested_tables::push_cursors;
 use ikey::Bytewise;
 use merge::{Merging, least_place, merge_law, union_law};
 use std::alloc::Global;
 use std::process::Abort;
 use std::test::*;
-use table::{Cursor, TableCursor, check};
-
-/// `table: a@1 put x`
-const A: &[u8] = b"\
-    \0\x09\x01a\x01\x01\0\0\0\0\0\0x\0\0\0\0\x01\0\0\0\0\x84\xdd\x88t\0\0\0\0\x01\0\0\0\0\xc0\xf2\
-    \xa1\xb0\0\x09\x02a\x01\x01\0\0\0\0\0\0\0\x15\0\0\0\0\x01\0\0\0\06I\x25\xbf\x1a\x08\x27\x16\0\
-    \0\0\0\0\0\0\0\0\0\0\0\0\0\0\0\0\0\0\0\0\0\0\0\0\0\0\0\0\0\0\0\0\0\0\0W\xfb\x80\x8b\x24uG\xdb";
+use table::{Cursor, TableCursor};
 
 /// `table: u@5 put 1`
 const U: &[u8] = b"\
@@ -55,24 +51,6 @@ const ACF: &[u8] = b"\
 
 /// Tables of one entry each.
 const ONE_EACH: &[&[u8]] = &[U, A, NEWER_U, OTHER_U];
-
-/// The cursor over a table.
-fn cursor(rt: &impl Abort, alloc: Global, bytes: &'static [u8]) -> TableCursor<'static, Bytewise> {
-    let table = check::<Bytewise>(alloc, bytes).expect(rt, "a table");
-    TableCursor::new(alloc, &table).expect(rt, "memory")
-}
-
-/// Appends the cursors over these tables.
-fn push_cursors(
-    rt: &impl Abort,
-    alloc: Global,
-    cursors: &mut Vec<TableCursor<'static, Bytewise>>,
-    tables: &[&'static [u8]],
-) {
-    for bytes in tables {
-        cursors.push(cursor(rt, alloc, *bytes)).expect(rt, "memory");
-    }
-}
 
 /// The cursors over lists of tables.
 fn cursors(

@@ -1,10 +1,10 @@
 //! The test of a version with the tables of a folder, in one range of user keys and in several.
 
 use crate::checks_tests::are_tables;
-use crate::scan_tests::Held;
+use crate::compact_tests::tables::U9;
 use crate::tested_tables::{
-    A_AND_U, A_AT_THREE, B_AT_TWO, OLDER_ABOVE, SAME_KEY, SEVERAL_RANGES, U_AT_NINE, U_AT_ONE,
-    U_AT_SEVEN, version_after,
+    A_AND_U, A_AT_THREE, B_AT_TWO, BUDGETS, Held, OLDER_ABOVE, OLDER_VALUES, SAME_KEY,
+    SEVERAL_RANGES, U_AT_ONE, U_AT_SEVEN, VALUES, version_after,
 };
 use board::Open;
 use checks::{
@@ -40,7 +40,7 @@ const ROWS: &[Row] = &[
         files: &[
             ("000010.ldb", U_AT_ONE),
             ("000011.sst", U_AT_SEVEN),
-            ("000012.ldb", U_AT_NINE),
+            ("000012.ldb", U9),
         ],
         told: Ok((3, 3)),
         calls: Some(4),
@@ -48,33 +48,18 @@ const ROWS: &[Row] = &[
     Row {
         name: "several ranges, and a table that reaches into three",
         edit: SEVERAL_RANGES,
-        files: &[
-            ("000009.ldb", A_AND_U),
-            ("000010.ldb", A_AT_THREE),
-            ("000011.ldb", B_AT_TWO),
-            ("000012.ldb", U_AT_SEVEN),
-            ("000013.ldb", U_AT_NINE),
-        ],
+        files: VALUES,
         told: Ok((5, 6)),
         calls: Some(5),
     },
     Row {
         name: "entries of the last range that do not fall",
         edit: OLDER_ABOVE,
-        files: &[
-            ("000009.ldb", A_AND_U),
-            ("000010.ldb", A_AT_THREE),
-            ("000011.ldb", B_AT_TWO),
-            ("000012.ldb", U_AT_NINE),
-            ("000013.ldb", U_AT_SEVEN),
-        ],
+        files: OLDER_VALUES,
         told: Err(FaultName::Lawless),
         calls: None,
     },
 ];
-
-/// Budgets of memory: one range for each user key, several, and one for all.
-const BUDGETS: &[u64] = &[1, 300, 1 << 30];
 
 /// Whether an answer is the expected one.
 fn is_told(answer: Result<VersionTotals, Fault>, told: Result<(usize, u128), FaultName>) -> bool {
@@ -118,7 +103,7 @@ const OF_SEVERAL: &[Held] = &[
     ("000010.ldb", A_AT_THREE),
     ("000011.ldb", B_AT_TWO),
     ("000012.ldb", U_AT_SEVEN),
-    ("000013.ldb", U_AT_NINE),
+    ("000013.ldb", U9),
 ];
 
 /// Tables by their numbers, each with the sequence of its first key.

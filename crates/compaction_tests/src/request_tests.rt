@@ -1,49 +1,28 @@
 //! A request that is accepted, with its edit, and one that is refused. The other refusals are rows
 //! of `compact_tests`.
 
+use crate::compact_tests::rows::{LEVEL_ONE, Row};
+use crate::compact_tests::tests::{asked, picked};
 use coding::{Fault, FaultName};
 use compact::Request;
-use edit::{DeletedFile, Version, VersionEdit};
+use edit::{DeletedFile, VersionEdit};
 use ikey::Bytewise;
 use keep::Snapshots;
-use pick::{Inputs, inputs};
 use std::alloc::Global;
 use std::process::Abort;
 use std::test::*;
-use table::Options;
 
-/// `edit: file 1 7 125 u@4 del .. u@2 put`
-const INPUT: &[u8] = b"\x07\x01\x07\x7d\x09u\0\x04\0\0\0\0\0\0\x09u\x01\x02\0\0\0\0\0\0";
+/// A request, which doesn't look at the bytes of its table.
+const ACCEPTED: Row = Row {
+    tables: &[b""],
+    ..LEVEL_ONE
+};
 
-/// The bytes of its table, which a request doesn't look at.
-const TABLES: &[&[u8]] = &[b""];
-
-/// The input.
-fn picked(rt: &impl Abort, alloc: Global) -> Inputs {
-    let edit = VersionEdit::decode(alloc, INPUT).expect(rt, "an edit");
-    let version = Version::empty(alloc)
-        .applied::<Bytewise>(edit)
-        .expect(rt, "a version");
-    inputs::<Bytewise>(alloc, &version, 1).expect(rt, "inputs")
-}
-
-/// The request over inputs with these snapshots.
-fn asked<'x>(picked: &'x Inputs, snapshots: Snapshots<'x>) -> Request<'x> {
-    Request {
-        picked,
-        tables: TABLES,
-        snapshots,
-        first_number: 9,
-        log_number: 3,
-        previous_log: 0,
-        last_sequence: 4,
-        options: Options {
-            block_size: 4_096,
-            restart_interval: 16,
-            file_size: 2_097_152,
-        },
-    }
-}
+/// The same with a snapshot that is listed twice.
+const REFUSED: Row = Row {
+    snapshots: Snapshots::Listed(&[3, 3]),
+    ..ACCEPTED
+};
 
 /// Whether an edit
 ///
@@ -82,9 +61,9 @@ fn is_edited(rt: &impl Abort, alloc: Global, asked: &Request<'_>) -> bool {
 
 #[test]
 fn a_request_and_its_edit(rt: HostRuntime) {
-    let picked = picked(&rt, rt.alloc());
-    let accepted = asked(&picked, Snapshots::From(4));
+    let picked = picked(&rt, rt.alloc(), &ACCEPTED);
+    let accepted = asked(&ACCEPTED, &picked);
     assert!(rt; accepted.check::<Bytewise>() == Ok(()) && is_edited(&rt, rt.alloc(), &accepted));
-    let refused = asked(&picked, Snapshots::Listed(&[3, 3])).check::<Bytewise>();
+    let refused = asked(&REFUSED, &picked).check::<Bytewise>();
     assert!(rt; refused == Err(Fault::of(FaultName::SnapshotList)));
 }

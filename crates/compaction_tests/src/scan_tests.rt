@@ -1,8 +1,8 @@
 //! The rows of versions, with the tables of a folder in one range of user keys and in several.
 
-use crate::store_tests::rows::U4_DELETED;
+use crate::compact_tests::tables::U4_DELETED;
 use crate::tested_tables::{
-    A_AND_U, A_AT_THREE, B_AT_TWO, SEVERAL_RANGES, U_AT_NINE, U_AT_SEVEN, opened_after,
+    A_AND_U, A_AT_THREE, B_AT_TWO, BUDGETS, Held, SEVERAL_RANGES, VALUES, opened_after,
     version_after,
 };
 use board::Open;
@@ -24,18 +24,6 @@ pub(crate) const DELETION_ABOVE: &[u8] = b"\
     \0\0\x09u\0\x04\0\0\0\0\0\0\x07\x01\x0aq\x09a\x01\x03\0\0\0\0\0\0\x09a\x01\x03\0\0\0\0\0\0\x07\
     \x01\x0bq\x09b\x01\x02\0\0\0\0\0\0\x09b\x01\x02\0\0\0\0\0\0\x07\x02\x09\x7d\x09a\x01\x01\0\0\0\
     \0\0\0\x09u\x01\x01\0\0\0\0\0\0";
-
-/// A file of a folder: its name and its bytes.
-pub(crate) type Held = (&'static str, &'static [u8]);
-
-/// The files of [`SEVERAL_RANGES`]: u has the values x, y and none, from the newest on.
-pub(crate) const VALUES: &[Held] = &[
-    ("000009.ldb", A_AND_U),
-    ("000010.ldb", A_AT_THREE),
-    ("000011.ldb", B_AT_TWO),
-    ("000012.ldb", U_AT_SEVEN),
-    ("000013.ldb", U_AT_NINE),
-];
 
 /// Those that hold a.
 const VALUES_OF_A: &[Held] = &[("000009.ldb", A_AND_U), ("000010.ldb", A_AT_THREE)];
@@ -132,9 +120,6 @@ const LAWFUL: &[Row] = &[
     },
 ];
 
-/// Budgets of memory: one range for each user key, several, and one for all.
-const BUDGETS: &[u64] = &[1, 300, 1 << 30];
-
 /// Who collects rows, and says to stop after some.
 #[derive(Drop)]
 struct Collected {
@@ -180,46 +165,39 @@ fn new_taker(alloc: Global, row: &Row) -> Collected {
     }
 }
 
-/// Whether the scan of a row, without a test of the version, tells its rows.
-fn tell<R: Threads + Sync + Abort>(rt: &R, alloc: Global, row: &Row, memory: u64) -> bool {
+/// Whether the scan of a row, with a test of the version or without, tells its rows.
+fn tell<R: Threads + Sync + Abort>(
+    rt: &R,
+    alloc: Global,
+    row: &Row,
+    memory: u64,
+    is_tested: bool,
+) -> bool {
     let opened = opened_after(rt, alloc, row.edit);
     let mut shelf = Shelf::new(alloc, row.files);
     let mut told = new_taker(alloc, row);
     let workers = checkers(rt, alloc, &Open);
-    let answer = scan_unverified(&workers, &mut shelf, &opened, row.choice, memory, &mut told);
-    is_told(answer, &told, row)
-}
-
-/// The same with a test of the version.
-fn tell_tested<R: Threads + Sync + Abort>(rt: &R, alloc: Global, row: &Row) -> bool {
-    let opened = opened_after(rt, alloc, row.edit);
-    let mut shelf = Shelf::new(alloc, row.files);
-    let mut told = new_taker(alloc, row);
-    let workers = checkers(rt, alloc, &Open);
-    let answer = scan_version(
-        &workers,
-        &mut shelf,
-        &opened,
-        row.choice,
-        1 << 30,
-        &mut told,
-    );
+    let answer = if is_tested {
+        scan_version(&workers, &mut shelf, &opened, row.choice, memory, &mut told)
+    } else {
+        scan_unverified(&workers, &mut shelf, &opened, row.choice, memory, &mut told)
+    };
     is_told(answer, &told, row)
 }
 
 #[test]
 fn rows_of_versions(rt: HostRuntime) {
     for row in LAWFUL {
-        assert!(rt; tell_tested(&rt, rt.alloc(), row), "{}", row.name);
+        assert!(rt; tell(&rt, rt.alloc(), row, 1 << 30, true), "{}", row.name);
         for memory in BUDGETS {
             assert!(rt;
-                tell(&rt, rt.alloc(), row, *memory),
+                tell(&rt, rt.alloc(), row, *memory, false),
                 "{} {memory}",
                 row.name
             );
         }
     }
-    assert!(rt; tell(&rt, rt.alloc(), &PARTLY_THERE, 1));
+    assert!(rt; tell(&rt, rt.alloc(), &PARTLY_THERE, 1, false));
 }
 
 #[test]

@@ -1,3 +1,4 @@
+use crate::tested_tables::{Parting, keys_of};
 use coding::{Fault, FaultName};
 use ikey::{Bytewise, InternalKey};
 use split::{Split, one_choice};
@@ -182,23 +183,9 @@ fn boundaries_that_are_sampled(rt: HostRuntime) {
     }
 }
 
-/// Boundaries of two bytes: the first, the step from one to the next, and their number. A last byte
-/// 0 is left out.
-type Parting = (u16, u16, u16);
-
-/// How many ranges there are between them.
+/// How many ranges there are between these boundaries.
 fn ranges_between(rt: &impl Abort, alloc: Global, parting: &Parting) -> Result<u64, Fault> {
-    let mut keys = Vec::new(alloc);
-    for number in 0..parting.2 {
-        let key = parting
-            .0
-            .wrapping_add(parting.1.wrapping_mul(number))
-            .to_be_bytes();
-        let len = if key[1] == 0 { 1 } else { 2 };
-        let key = Vec::from_slice(alloc, &key[..len]).expect(rt, "memory");
-        keys.push(key).expect(rt, "memory");
-    }
-    let split = Split::<Bytewise>::from_keys(keys)?;
+    let split = Split::<Bytewise>::from_keys(keys_of(rt, alloc, *parting))?;
     Ok(split.len())
 }
 

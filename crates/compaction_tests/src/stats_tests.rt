@@ -1,9 +1,9 @@
 //! How much versions have at their levels, with the tables of a folder in one range of user keys
 //! and in several.
 
-use crate::scan_tests::{DELETED, DELETION_ABOVE, Held, VALUES};
+use crate::scan_tests::{DELETED, DELETION_ABOVE};
 use crate::tested_tables::{
-    A_AND_U, A_AT_THREE, B_AT_TWO, SEVERAL_RANGES, U_AT_SEVEN, opened_after,
+    A_AND_U, A_AT_THREE, B_AT_TWO, BUDGETS, Held, SEVERAL_RANGES, U_AT_SEVEN, VALUES, opened_after,
 };
 use board::Open;
 use checks::checkers;
@@ -69,9 +69,6 @@ const ROWS: &[Row] = &[
         told: Err(FaultName::Missing),
     },
 ];
-
-/// Budgets of memory: one range for each user key, several, and one for all.
-const BUDGETS: &[u64] = &[1, 300, 1 << 30];
 
 /// Whether amounts are these numbers.
 fn are_numbers(found: Amounts, wanted: Numbers) -> bool {

@@ -57,28 +57,28 @@ impl Told {
         }
     }
 
+    /// The step that is to be told next.
+    fn next(&self) -> Option<&'static Step> {
+        self.row.steps.get(self.steps)
+    }
+
     /// Is told of a step.
     fn tell(&mut self, step: &CompactionStep) {
-        self.count(match self.row.steps.get(self.steps) {
-            Some(wanted) => is_step(step, wanted),
-            None => false,
-        });
+        let next = self.next();
+        self.count(next.is_some_and(|wanted| is_step(step, wanted)));
     }
 
     /// Is told of an outcome that was written.
     fn tell_outcome(&mut self, made: &CompactionOutcome) {
-        self.count(match self.row.steps.get(self.steps) {
-            Some(wanted) => is_made(&made.outputs, &made.deleted, &made.outcome.edit, wanted),
-            None => false,
-        });
+        let edit = made.outcome.edit.as_slice();
+        let next = self.next();
+        self.count(next.is_some_and(|one| is_made(&made.outputs, &made.deleted, edit, one)));
     }
 
     /// Is told of the manifest of a step alone.
     fn tell_manifest(&mut self, manifest: u64) {
-        self.count(match self.row.steps.get(self.steps) {
-            Some(wanted) => manifest == wanted.manifest,
-            None => false,
-        });
+        let next = self.next();
+        self.count(next.is_some_and(|wanted| manifest == wanted.manifest));
     }
 
     /// Counts a step, which is the next one of the row or is not.

@@ -1,7 +1,43 @@
 //! Calls on folders, piece by piece.
 
+use std::alloc::AllocError;
+
 /// A call: what it does, and to which name. Of one that reads, no name is given.
 pub(crate) type Call = (&'static str, &'static str);
+
+/// Calls that are made one after the other.
+#[derive(Clone, Copy)]
+pub(crate) enum Piece {
+    /// These.
+    Calls(&'static [Call]),
+    /// A table of one input, by its name.
+    Table(&'static str),
+    /// A manifest is written, and CURRENT names it: the names of the manifest and of that CURRENT
+    /// before it is renamed.
+    Installed(&'static str, &'static str),
+}
+
+impl Piece {
+    /// Appends its calls.
+    pub fn push_to(self, calls: &mut Vec<Call>) -> Result<(), AllocError> {
+        match self {
+            Piece::Calls(these) => calls.extend_from_slice(these),
+            Piece::Table(name) => {
+                calls.extend_from_slice(&[("read", ""), ("create", name), ("sync", name)])
+            }
+            Piece::Installed(manifest, temporary) => calls.extend_from_slice(&[
+                ("create", manifest),
+                ("sync", manifest),
+                ("create", temporary),
+                ("sync", temporary),
+                ("sync", "."),
+                ("read", ""),
+                ("rename", "CURRENT"),
+                ("sync", "."),
+            ]),
+        }
+    }
+}
 
 /// A version of one file is opened, synced and tested.
 pub(crate) const OPENED_5: &[Call] = &[
@@ -38,27 +74,6 @@ pub(crate) const OPENED_15: &[Call] = &[
 /// The table of the inputs that the test held.
 pub(crate) const PART_10: &[Call] = &[("create", "000010.ldb"), ("sync", "000010.ldb")];
 
-/// A table of one input.
-pub(crate) const PART_20: &[Call] = &[
-    ("read", ""),
-    ("create", "000020.ldb"),
-    ("sync", "000020.ldb"),
-];
-
-/// A table of one input.
-pub(crate) const PART_22: &[Call] = &[
-    ("read", ""),
-    ("create", "000022.ldb"),
-    ("sync", "000022.ldb"),
-];
-
-/// A table of one input.
-pub(crate) const PART_24: &[Call] = &[
-    ("read", ""),
-    ("create", "000024.ldb"),
-    ("sync", "000024.ldb"),
-];
-
 /// A table of two inputs.
 pub(crate) const PART_26: &[Call] = &[
     ("read", ""),
@@ -66,54 +81,6 @@ pub(crate) const PART_26: &[Call] = &[
     ("read", ""),
     ("create", "000026.ldb"),
     ("sync", "000026.ldb"),
-];
-
-/// A manifest is written, and CURRENT names it.
-pub(crate) const INSTALLED_9: &[Call] = &[
-    ("create", "MANIFEST-000009"),
-    ("sync", "MANIFEST-000009"),
-    ("create", "000009.dbtmp"),
-    ("sync", "000009.dbtmp"),
-    ("sync", "."),
-    ("read", ""),
-    ("rename", "CURRENT"),
-    ("sync", "."),
-];
-
-/// A manifest is written, and CURRENT names it.
-pub(crate) const INSTALLED_19: &[Call] = &[
-    ("create", "MANIFEST-000019"),
-    ("sync", "MANIFEST-000019"),
-    ("create", "000019.dbtmp"),
-    ("sync", "000019.dbtmp"),
-    ("sync", "."),
-    ("read", ""),
-    ("rename", "CURRENT"),
-    ("sync", "."),
-];
-
-/// A manifest is written, and CURRENT names it.
-pub(crate) const INSTALLED_23: &[Call] = &[
-    ("create", "MANIFEST-000023"),
-    ("sync", "MANIFEST-000023"),
-    ("create", "000023.dbtmp"),
-    ("sync", "000023.dbtmp"),
-    ("sync", "."),
-    ("read", ""),
-    ("rename", "CURRENT"),
-    ("sync", "."),
-];
-
-/// A manifest is written, and CURRENT names it.
-pub(crate) const INSTALLED_25: &[Call] = &[
-    ("create", "MANIFEST-000025"),
-    ("sync", "MANIFEST-000025"),
-    ("create", "000025.dbtmp"),
-    ("sync", "000025.dbtmp"),
-    ("sync", "."),
-    ("read", ""),
-    ("rename", "CURRENT"),
-    ("sync", "."),
 ];
 
 /// What is removed after the first step.

@@ -2,11 +2,11 @@
 //! one, if the last sync of the first failed.
 
 use crate::acts::compact_dir;
-use crate::crashes::{found, wrong_moment};
+use crate::crashes::{device_fails, found, wrong_moment};
 use crate::known_versions::{A, Files};
 use coding::Fault;
 use folder::{Folder, FolderFault};
-use shelf::{Failing, Shelf, ShelfStep};
+use shelf::{Shelf, ShelfStep};
 use std::alloc::Global;
 use std::process::Abort;
 use std::test::*;
@@ -73,16 +73,9 @@ fn crashes_of_a_folder_that_was_not_synced(rt: HostRuntime) {
     );
 }
 
-/// The failure of the last call of the first compaction, a sync of the folder.
-const LAST_SYNC: Failing = Failing {
-    call: CALLS,
-    fault: FolderFault::Device,
-    is_half_done: false,
-};
-
 #[test]
 fn crashes_after_a_last_sync_that_failed(rt: HostRuntime) {
-    let mut shelf = Shelf::new(rt.alloc(), FILES).failing(LAST_SYNC);
+    let mut shelf = Shelf::new(rt.alloc(), FILES).failing(device_fails(CALLS, false));
     assert_eq!(rt;
         compact(&rt, rt.alloc(), &mut shelf, 1),
         Err(Fault::from(FolderFault::Device))

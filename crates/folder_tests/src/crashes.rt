@@ -2,8 +2,17 @@
 
 use crate::known_versions::{Files, read_as};
 use folder::{Folder, FolderFault};
-use shelf::{Shelf, ShelfCall, ShelfStep};
+use shelf::{Failing, Shelf, ShelfCall, ShelfStep};
 use std::alloc::Global;
+
+/// The failure of the device in a call of a number, from 1.
+pub(crate) fn device_fails(call: u64, is_half_done: bool) -> Failing {
+    Failing {
+        call,
+        fault: FolderFault::Device,
+        is_half_done,
+    }
+}
 
 /// The calls made by a moment, the newest first. At an even moment half as many calls are done. At
 /// an odd one the crash comes inside the next call, which is then among them.

@@ -1,5 +1,6 @@
 //! Folders in memory, opened and loaded.
 
+use crate::known_versions::{Files, Tables, are};
 use coding::{Fault, FaultName};
 use edit::Version;
 use folder::*;
@@ -117,12 +118,6 @@ fn records_of_a_manifest(rt: HostRuntime) {
     }
 }
 
-/// Files by their names.
-pub(crate) type NamedFiles = &'static [(&'static str, &'static [u8])];
-
-/// Tables by their numbers.
-pub(crate) type Tables = &'static [(u64, &'static [u8])];
-
 const CURRENT_FIVE: (&str, &[u8]) = ("CURRENT", b"MANIFEST-000005\n");
 
 /// `log: comparator leveldb.BytewiseComparator, log 3, previous 0, next 9, last 4, file 1 5 100
@@ -148,7 +143,7 @@ const OLD_FIVE: (&str, &[u8]) = ("000005.sst", b"five, older");
 const OLD_THREE: (&str, &[u8]) = ("000003.sst", b"three");
 
 /// A folder with its tables: that of number 3 has its older name, that of number 5 has both.
-const ALL: NamedFiles = &[
+const ALL: Files = &[
     CURRENT_FIVE,
     MANIFEST,
     EIGHT,
@@ -162,7 +157,7 @@ const ALL: NamedFiles = &[
 const LOADED: Tables = &[(8, b"eight"), (3, b"three"), (5, b"five")];
 
 /// Files of a folder, the refusal of its tables, and how many calls are made.
-type Row = (NamedFiles, FaultName, u64);
+type Row = (Files, FaultName, u64);
 
 const FOLDERS: &[Row] = &[
     // Without the table of number 8.
@@ -195,16 +190,6 @@ fn loaded(alloc: Global, folder: &mut Shelf<'_>) -> Result<Vec<(u64, Vec<u8>)>, 
     load::<Bytewise, Shelf<'_>>(alloc, folder, &version)
 }
 
-/// Whether tables are these.
-fn are(tables: &[(u64, Vec<u8>)], wanted: &[(u64, &[u8])]) -> bool {
-    for (table, one) in tables.iter().zip(wanted) {
-        if table.0 != one.0 || table.1.as_slice() != one.1 {
-            return false;
-        }
-    }
-    tables.len() == wanted.len()
-}
-
 /// Whether these tables are loaded, or the refusal is this one.
 fn are_loaded(
     answer: Result<Vec<(u64, Vec<u8>)>, Fault>,
@@ -218,12 +203,7 @@ fn are_loaded(
 }
 
 /// Whether a folder of these files, read by this many calls, has this answer.
-fn is_answered(
-    alloc: Global,
-    files: NamedFiles,
-    wanted: Result<Tables, FaultName>,
-    calls: u64,
-) -> bool {
+fn is_answered(alloc: Global, files: Files, wanted: Result<Tables, FaultName>, calls: u64) -> bool {
     let mut folder = Shelf::new(alloc, files);
     let answer = loaded(alloc, &mut folder);
     are_loaded(answer, wanted) && (folder.failures(), folder.calls()) == (0, calls)

@@ -1,7 +1,7 @@
 //! Tables of folders, as their readers give them.
 
 use crate::folder_disk_tests::{makes, new_path};
-use crate::folder_opening_tests::NamedFiles;
+use crate::known_versions::Files;
 use disk::{Disk, SystemFiles, WholeFiles};
 use folder::*;
 use shelf::Shelf;
@@ -9,18 +9,13 @@ use std::alloc::Global;
 use std::fs;
 use std::process::Abort;
 
-/// A table that is read.
-#[derive(Clone, Copy, Drop)]
-struct Read {
-    number: u64,
-    /// Its bytes. None if they can't be had.
-    bytes: Option<&'static [u8]>,
-}
+/// The number of a table that is read, and its bytes; None if they can't be had.
+type Read = (u64, Option<&'static [u8]>);
 
 /// Tables that are read in one folder.
 #[derive(Clone, Copy, Drop)]
 struct Trial {
-    files: NamedFiles,
+    files: Files,
     reads: &'static [Read],
 }
 
@@ -36,65 +31,32 @@ const TRIALS: &[Trial] = &[
             ("000009.ldb", b""),
         ],
         reads: &[
-            Read {
-                number: 8,
-                bytes: Some(b"eight"),
-            },
-            Read {
-                number: 5,
-                bytes: Some(b"five"),
-            },
-            Read {
-                number: 3,
-                bytes: Some(b"three"),
-            },
-            Read {
-                number: 1_234_567,
-                bytes: Some(b"a longer name"),
-            },
-            Read {
-                number: 9,
-                bytes: Some(b""),
-            },
-            Read {
-                number: 4,
-                bytes: None,
-            },
-            Read {
-                number: 8,
-                bytes: Some(b"eight"),
-            },
+            (8, Some(b"eight")),
+            (5, Some(b"five")),
+            (3, Some(b"three")),
+            (1_234_567, Some(b"a longer name")),
+            (9, Some(b"")),
+            (4, None),
+            (8, Some(b"eight")),
         ],
     },
     // A folder has the newer name: the older one isn't asked for.
     Trial {
         files: &[("000006.sst", b"six, older"), ("000007.ldb", b"seven")],
-        reads: &[
-            Read {
-                number: 6,
-                bytes: None,
-            },
-            Read {
-                number: 7,
-                bytes: Some(b"seven"),
-            },
-        ],
+        reads: &[(6, None), (7, Some(b"seven"))],
     },
     Trial {
         files: &[],
-        reads: &[Read {
-            number: 0,
-            bytes: None,
-        }],
+        reads: &[(0, None)],
     },
 ];
 
 /// Whether a reader gives these tables.
 fn gives<D: TableReader>(alloc: Global, reader: &D, reads: &[Read]) -> bool {
-    for read in reads {
-        let is_read = match reader.table(alloc, read.number) {
-            Some(bytes) => read.bytes == Some(bytes.as_slice()),
-            None => read.bytes.is_none(),
+    for (number, wanted) in reads {
+        let is_read = match reader.table(alloc, *number) {
+            Some(bytes) => *wanted == Some(bytes.as_slice()),
+            None => wanted.is_none(),
         };
         if !is_read {
             return false;
@@ -134,10 +96,7 @@ fn tables_are_read(rt: HostRuntime) {
 #[test]
 fn nothing_is_read(rt: HostRuntime) {
     let alloc = rt.alloc();
-    let none = &[Read {
-        number: 8,
-        bytes: None,
-    }];
+    let none = &[(8, None)];
     assert!(rt; gives(alloc, &Disk::new(&rt, "").reader(), none));
     assert!(rt; gives(alloc, &Disk::new(&rt, "/nowhere/at/all").reader(), none));
     let shelf = Shelf::new(alloc, &[("000008.ldb", b"eight")]);

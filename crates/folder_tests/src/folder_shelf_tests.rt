@@ -1,8 +1,9 @@
 //! The names in a folder, and a folder in memory that is written to.
 
+use crate::crashes::device_fails;
 use coding::{Fault, FaultName};
 use folder::*;
-use shelf::{Failing, Shelf, ShelfStep};
+use shelf::{Shelf, ShelfStep};
 use std::alloc::Global;
 use std::process::Abort;
 
@@ -83,11 +84,7 @@ fn is_fifth(steps: &[ShelfStep], is_shown: bool) -> bool {
 /// Whether a folder in memory has what was written to it, and under the name 2 what is left of its
 /// fifth call, which fails.
 fn is_written(alloc: Global, is_half_done: bool, half: Option<&[u8]>) -> bool {
-    let mut shelf = Shelf::new(alloc, FILES).failing(Failing {
-        call: 5,
-        fault: FolderFault::Device,
-        is_half_done,
-    });
+    let mut shelf = Shelf::new(alloc, FILES).failing(device_fails(5, is_half_done));
     holds(&shelf, [Some(b"one"), Some(b"two"), None])
         && are_done(&mut shelf)
         && fifth_fails(&mut shelf)

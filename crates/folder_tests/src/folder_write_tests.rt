@@ -5,18 +5,16 @@ ghost use Rattle.std.specs.Prelude.{◌≡◌};
 use crate::folder_disk_tests::{has, make_folder, new_path, remove_folder};
 use crate::folder_system_tests::path_of;
 use crate::folder_told_tests::is_told;
+use crate::known_versions::{Tables, made};
 use board::Open;
 use coding::{Fault, FaultName};
 use disk::Disk;
 use folder::*;
 use shelf::Shelf;
-use std::alloc::{AllocError, Global};
+use std::alloc::Global;
 use std::process::Abort;
 use std::rt::Files;
 use std::thread::Threads;
-
-/// Tables by their numbers.
-type Tables = &'static [(u64, &'static [u8])];
 
 const THREE: Tables = &[(3, b"three"), (5, b"five"), (8, b"")];
 
@@ -98,15 +96,6 @@ fn written<F: WritesTables, R: Threads + Sync>(
             write_source(rt, alloc, folder, &source, workers, &Open)
         }
     }
-}
-
-/// Copies of these tables.
-fn made(alloc: Global, wanted: Tables) -> Result<Vec<(u64, Vec<u8>)>, AllocError> {
-    let mut tables = Vec::with_capacity(alloc, wanted.len())?;
-    for (number, bytes) in wanted {
-        tables.push((*number, Vec::from_slice(alloc, bytes)?))?;
-    }
-    Ok(tables)
 }
 
 /// Whether a folder has what THREE and then TWICE leave.

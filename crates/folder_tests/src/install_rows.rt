@@ -52,16 +52,7 @@ pub(crate) struct Row {
 /// set log number 3, previous log number 0, next file and last sequence 4, and delete file 7 at
 /// level 1. New at level 2 are number 9 of 4 bytes for `u`, and number 10 of 3 bytes for `v`.
 pub(crate) const ROWS: &[&Row] = &[
-    &Row {
-        opened: 5,
-        manifest: BEFORE,
-        edit: b"\x02\x03\x09\0\x03\x09\x04\x04\x06\x01\x07",
-        tables: &[],
-        second: None,
-        calls: 7,
-        edited: 9,
-        again: 9,
-    },
+    &NONE,
     ONE,
     &TWO,
     &Row {
@@ -70,33 +61,41 @@ pub(crate) const ROWS: &[&Row] = &[
     },
 ];
 
-/// That of one output.
-pub(crate) const ONE: &Row = &Row {
+/// That of no output.
+const NONE: Row = Row {
     opened: 5,
     manifest: BEFORE,
+    edit: b"\x02\x03\x09\0\x03\x09\x04\x04\x06\x01\x07",
+    tables: &[],
+    second: None,
+    calls: 7,
+    edited: 9,
+    again: 9,
+};
+
+/// That of one output.
+pub(crate) const ONE: &Row = &Row {
     edit: b"\
         \x02\x03\x09\0\x03\x0a\x04\x04\x06\x01\x07\
         \x07\x02\x09\x04\x09u\x01\x02\0\0\0\0\0\0\x09u\x01\x02\0\0\0\0\0\0",
     tables: &[(9, b"nine")],
-    second: None,
     calls: 9,
     edited: 10,
     again: 13,
+    ..NONE
 };
 
 /// That of two outputs.
 const TWO: Row = Row {
-    opened: 5,
-    manifest: BEFORE,
     edit: b"\
         \x02\x03\x09\0\x03\x0b\x04\x04\x06\x01\x07\
         \x07\x02\x09\x04\x09u\x01\x02\0\0\0\0\0\0\x09u\x01\x02\0\0\0\0\0\0\
         \x07\x02\x0a\x03\x09v\x01\x03\0\0\0\0\0\0\x09v\x01\x03\0\0\0\0\0\0",
     tables: &[(9, b"nine"), (10, b"ten")],
-    second: None,
     calls: 11,
     edited: 11,
     again: 11,
+    ..NONE
 };
 
 /// The outcome of a second run over the version of one output. Next file is 13, file 9 at level 2
@@ -108,8 +107,8 @@ pub(crate) const SECOND: &Row = &Row {
         \x02\x03\x09\0\x03\x0d\x04\x04\x06\x02\x09\
         \x07\x02\x0c\x06\x09u\x01\x02\0\0\0\0\0\0\x09u\x01\x02\0\0\0\0\0\0",
     tables: &[(12, b"twelve")],
-    second: None,
     calls: 9,
     edited: 13,
     again: 13,
+    ..NONE
 };

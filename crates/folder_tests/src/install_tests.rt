@@ -1,8 +1,8 @@
 //! Installations that are cut short at any moment, and of which any call fails.
 
-use crate::crashes::wrong_moment;
+use crate::crashes::{device_fails, wrong_moment};
 use crate::install_rows::{BEFORE, FILES, ONE, READS, READS_AGAIN, ROWS, Row, SECOND};
-use crate::known_versions::read_as;
+use crate::known_versions::{made, read_as};
 use coding::{Fault, FaultName};
 use edit::{Outcome, Version};
 use folder::{Folder, FolderFault, load, open};
@@ -15,10 +15,7 @@ use std::thread::Threads;
 
 /// The outcome of a row.
 fn outcome_of(alloc: Global, row: &Row) -> Result<Outcome, Fault> {
-    let mut tables = Vec::new(alloc);
-    for (number, bytes) in row.tables {
-        tables.push((*number, Vec::from_slice(alloc, bytes)?))?;
-    }
+    let tables = made(alloc, row.tables)?;
     let edit = Vec::from_slice(alloc, row.edit)?;
     Ok(Outcome { tables, edit })
 }
@@ -154,11 +151,7 @@ fn ends_there<R: Threads + Sync>(
 fn wrong_failure<R: Threads + Sync>(rt: &R, alloc: Global, row: &Row) -> Option<usize> {
     let calls = calls_of(row);
     for way in 0..calls.saturating_mul(2) {
-        let failing = Failing {
-            call: way / 2 + 1,
-            fault: FolderFault::Device,
-            is_half_done: way % 2 == 1,
-        };
+        let failing = device_fails(way / 2 + 1, way % 2 == 1);
         let mut shelf = Shelf::new(alloc, FILES).failing(failing);
         if !ends_there(rt, alloc, &mut shelf, row, failing) {
             return Some(failing.call as usize);
@@ -179,13 +172,6 @@ fn crashes_and_calls_that_fail(rt: HostRuntime) {
         is_none(&rt, wrong_failure(&rt, rt.alloc(), row), row);
     }
 }
-
-/// The failure of the last call.
-const LAST_SYNC: Failing = Failing {
-    call: READS + 9 + READS_AGAIN,
-    fault: FolderFault::Device,
-    is_half_done: false,
-};
 
 /// The first moment at which a crash leaves what it should not, of an installation whose last call
 /// fails and of a second run after it, which begins with a sync of the folder.
@@ -212,7 +198,8 @@ fn wrong_after_the_last_sync<R: Threads + Sync>(
 
 #[test]
 fn folder_not_synced_first(rt: HostRuntime) {
-    let mut shelf = Shelf::new(rt.alloc(), FILES).failing(LAST_SYNC);
+    let last_sync = device_fails(READS + 9 + READS_AGAIN, false);
+    let mut shelf = Shelf::new(rt.alloc(), FILES).failing(last_sync);
     is_none(
         &rt,
         wrong_after_the_last_sync(&rt, rt.alloc(), &mut shelf),

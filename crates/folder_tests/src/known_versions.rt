@@ -5,7 +5,7 @@ use coding::Fault;
 use folder::{Order, load, open};
 use ikey::Bytewise;
 use shelf::Shelf;
-use std::alloc::Global;
+use std::alloc::{AllocError, Global};
 
 /// Files by their names.
 pub(crate) type Files = &'static [(&'static str, &'static [u8])];
@@ -51,8 +51,17 @@ const KNOWN: &[(u64, Tables)] = &[
     (27, &[(24, A), (26, NEWER_B)]),
 ];
 
+/// Copies of these tables.
+pub(crate) fn made(alloc: Global, wanted: Tables) -> Result<Vec<(u64, Vec<u8>)>, AllocError> {
+    let mut tables = Vec::with_capacity(alloc, wanted.len())?;
+    for (number, bytes) in wanted {
+        tables.push((*number, Vec::from_slice(alloc, bytes)?))?;
+    }
+    Ok(tables)
+}
+
 /// Whether the tables are these.
-fn are(tables: &[(u64, Vec<u8>)], wanted: &[(u64, &[u8])]) -> bool {
+pub(crate) fn are(tables: &[(u64, Vec<u8>)], wanted: &[(u64, &[u8])]) -> bool {
     for (table, one) in tables.iter().zip(wanted) {
         if table.0 != one.0 || table.1.as_slice() != one.1 {
             return false;

@@ -1,9 +1,7 @@
 //! What is done to folders that tell contracts nothing, and the calls that it makes on them.
 
-use crate::calls::{
-    Call, INSTALLED_9, INSTALLED_19, INSTALLED_23, INSTALLED_25, OPENED_5, OPENED_15, PART_10,
-    PART_20, PART_22, PART_24, PART_26, REMOVED_15, REMOVED_19, WRITTEN,
-};
+use crate::calls::Piece::{Calls, Installed, Table};
+use crate::calls::{OPENED_5, OPENED_15, PART_10, PART_26, Piece, REMOVED_15, REMOVED_19, WRITTEN};
 use crate::compaction_crash_tests::FILES;
 use crate::known_versions::{A, B, Files, NEWER_B, NO_OUTCOME, OUTCOME};
 use crate::steps::{BOTH, FIRST, FIRST_EDIT, FOURTH, LAST, ONE, SECOND_EDIT, Step, THIRD};
@@ -48,7 +46,7 @@ pub(crate) struct Row {
     /// The files of other folders, which are only read.
     pub sources: &'static [Files],
     /// The calls in order, piece by piece.
-    pub calls: &'static [&'static [Call]],
+    pub calls: &'static [Piece],
     /// The steps that are told.
     pub steps: &'static [Step],
     /// The version before, and the one after each step, by next file.
@@ -80,7 +78,12 @@ const WHOLE: Row = Row {
     act: Act::Whole,
     files: LEVELS,
     sources: &[],
-    calls: &[OPENED_15, PART_20, PART_22, INSTALLED_19],
+    calls: &[
+        Calls(OPENED_15),
+        Table("000020.ldb"),
+        Table("000022.ldb"),
+        Installed("MANIFEST-000019", "000019.dbtmp"),
+    ],
     steps: &[BOTH],
     versions: &[19, 23],
     ends: &[
@@ -99,7 +102,11 @@ pub(crate) const ROWS: &[Row] = &[
         name: "a compaction",
         act: Act::Compact,
         files: FILES,
-        calls: &[OPENED_5, PART_10, INSTALLED_9],
+        calls: &[
+            Calls(OPENED_5),
+            Calls(PART_10),
+            Installed("MANIFEST-000009", "000009.dbtmp"),
+        ],
         steps: &[ONE],
         versions: &[9, 11],
         ends: &[
@@ -114,15 +121,15 @@ pub(crate) const ROWS: &[Row] = &[
         name: "parts that fit, with removals",
         act: Act::All(228),
         calls: &[
-            OPENED_15,
-            PART_20,
-            PART_22,
-            INSTALLED_19,
-            REMOVED_15,
-            PART_24,
-            PART_26,
-            INSTALLED_23,
-            REMOVED_19,
+            Calls(OPENED_15),
+            Table("000020.ldb"),
+            Table("000022.ldb"),
+            Installed("MANIFEST-000019", "000019.dbtmp"),
+            Calls(REMOVED_15),
+            Table("000024.ldb"),
+            Calls(PART_26),
+            Installed("MANIFEST-000023", "000023.dbtmp"),
+            Calls(REMOVED_19),
         ],
         steps: &[
             Step {
@@ -152,14 +159,14 @@ pub(crate) const ROWS: &[Row] = &[
         name: "a part that doesn't fit",
         act: Act::All(227),
         calls: &[
-            OPENED_15,
-            PART_20,
-            PART_22,
-            INSTALLED_19,
-            PART_24,
-            INSTALLED_23,
-            PART_26,
-            INSTALLED_25,
+            Calls(OPENED_15),
+            Table("000020.ldb"),
+            Table("000022.ldb"),
+            Installed("MANIFEST-000019", "000019.dbtmp"),
+            Table("000024.ldb"),
+            Installed("MANIFEST-000023", "000023.dbtmp"),
+            Calls(PART_26),
+            Installed("MANIFEST-000025", "000025.dbtmp"),
         ],
         steps: &[BOTH, THIRD, FOURTH],
         versions: &[19, 23, 25, 27],
@@ -172,7 +179,11 @@ pub(crate) const ROWS: &[Row] = &[
     Row {
         name: "no part that fits, told to stop",
         act: Act::Stop(113),
-        calls: &[OPENED_15, PART_20, INSTALLED_19],
+        calls: &[
+            Calls(OPENED_15),
+            Table("000020.ldb"),
+            Installed("MANIFEST-000019", "000019.dbtmp"),
+        ],
         steps: &[FIRST],
         versions: &[19, 21],
         ..WHOLE
@@ -200,7 +211,7 @@ pub(crate) const ROWS: &[Row] = &[
         act: Act::Write,
         files: &[],
         sources: &[FILES],
-        calls: &[WRITTEN],
+        calls: &[Calls(WRITTEN)],
         steps: &[ONE],
         versions: &[NO_OUTCOME, OUTCOME],
         ends: &[

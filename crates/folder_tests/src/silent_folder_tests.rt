@@ -3,12 +3,12 @@
 
 use crate::acts::{Told, done};
 use crate::calls::Call;
-use crate::crashes::{is_named, renames, wrong_moment};
+use crate::crashes::{device_fails, is_named, renames, wrong_moment};
 use crate::known_versions::{Files, read_as};
 use crate::rows::{ROWS, Row, Wrong};
 use crate::silent_shelf::SilentShelf;
 use coding::{Fault, FaultName};
-use folder::{FolderFault, Readings};
+use folder::Readings;
 use shelf::{Failing, Shelf, ShelfCall, ShelfStep};
 use std::alloc::Global;
 use std::process::Abort;
@@ -22,15 +22,6 @@ struct Run {
     sources: Vec<SilentShelf<'static>>,
     told: Told,
     answer: Result<(), Fault>,
-}
-
-/// The failure of the device in a call of a number, from 1.
-fn failing(call: u64, is_half_done: bool) -> Failing {
-    Failing {
-        call,
-        fault: FolderFault::Device,
-        is_half_done,
-    }
 }
 
 /// A folder in memory that tells nothing.
@@ -59,7 +50,7 @@ fn sources_of(alloc: Global, row: &Row, wrong: Wrong) -> Result<Vec<SilentShelf<
     let mut sources = Vec::new(alloc);
     for (place, source) in row.sources.iter().enumerate() {
         let failing = match wrong {
-            Wrong::SourceCall(at, call) if at == place => Some(failing(call, false)),
+            Wrong::SourceCall(at, call) if at == place => Some(device_fails(call, false)),
             _ => None,
         };
         sources.push(silent(alloc, source, failing, wrong))?;
@@ -94,7 +85,7 @@ fn tried<R: Threads + Sync>(
 fn calls_of(alloc: Global, row: &Row) -> Result<Vec<Call>, Fault> {
     let mut calls = Vec::new(alloc);
     for piece in row.calls {
-        calls.extend_from_slice(piece)?;
+        piece.push_to(&mut calls)?;
     }
     Ok(calls)
 }
@@ -184,7 +175,7 @@ fn wrong_failure<R: Threads + Sync>(
 ) -> Result<Option<u64>, Fault> {
     let calls = calls_of(alloc, row)?;
     for way in 0..(calls.len() as u64).saturating_mul(2) {
-        let failing = failing(way / 2 + 1, way % 2 == 1);
+        let failing = device_fails(way / 2 + 1, way % 2 == 1);
         if !ends_at(rt, alloc, row, &calls, failing)? {
             return Ok(Some(failing.call));
         }

@@ -10,6 +10,7 @@ use keep::Snapshots;
 use pick::{InputFile, Inputs};
 use split::Split;
 use std::alloc::Global;
+use std::sync::Arc;
 use std::thread::Threads;
 use table::Options;
 
@@ -74,7 +75,7 @@ fn no_inputs(alloc: Global, case: &Case) -> Result<Inputs, Fault> {
         level: case.level,
         files: Vec::new(alloc),
         grandparents: metas(alloc, case.grandparents)?,
-        deeper: metas(alloc, case.deeper)?,
+        deeper: Arc::new(alloc, metas(alloc, case.deeper)?)?,
         pointer: CompactPointer {
             level: case.level,
             key: key_of(alloc, &U_AT_TWO)?,

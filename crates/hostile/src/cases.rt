@@ -12,7 +12,7 @@ use coding::FaultName;
 use table::Options;
 
 /// Options: blocks, restarts and files have the default sizes.
-const WIDE: Options = Options {
+pub const WIDE: Options = Options {
     block_size: 4_096,
     restart_interval: 16,
     file_size: 2_097_152,
@@ -52,41 +52,61 @@ const G: Meta<'static> = (11, 114, b"g\x01\x05\0\0\0\0\0\0", b"g\x01\x05\0\0\0\0
 
 const U: Meta<'static> = (12, 114, b"u\x01\x01\0\0\0\0\0\0", b"u\x01\x01\0\0\0\0\0\0");
 
-/// The tables of `a`, `b` and `c` as outputs.
-const ABC: Want = Want::Outcome(&[(5, TABLE), (6, TABLE_B), (7, TABLE_C)], OUTPUTS_EDIT);
+/// What cases have if they say nothing else: each entry fills a block, and two blocks an output.
+pub const PLAIN: Case = Case {
+    level: 1,
+    files: &[],
+    tables: &[],
+    grandparents: &[],
+    deeper: &[],
+    oldest: 1,
+    last_sequence: 9,
+    first_number: 5,
+    options: TWO_BLOCKS,
+    workers: 2,
+    want: Want::Accepted,
+};
+
+/// Each entry fills a block, and each block an output.
+const EACH: Case = Case {
+    files: &[A, C, B],
+    tables: &[TABLE, TABLE_C, TABLE_B],
+    options: SMALLEST,
+    want: Want::Outcome(&[(5, TABLE), (6, TABLE_B), (7, TABLE_C)], OUTPUTS_EDIT),
+    ..PLAIN
+};
+
+pub const OUTPUTS: &Case = &EACH;
+
+/// `OUTPUTS` by four workers.
+pub const FOUR_WORKERS: &Case = &Case { workers: 4, ..EACH };
 
 /// A deletion is kept, since a file of level 3 may hold the user key.
-pub const DELETION: &Case = &Case {
-    level: 1,
+const KEPT: Case = Case {
     files: &[(7, 125, b"u\0\x04\0\0\0\0\0\0", b"u\x01\x02\0\0\0\0\0\0")],
     tables: &[TABLE_U_TWICE],
-    grandparents: &[],
     deeper: &[(3, 1, b"t0\x01\x01\0\0\0\0\0\0", b"v0\x01\x01\0\0\0\0\0\0")],
     oldest: 4,
     last_sequence: 4,
     first_number: 9,
     options: WIDE,
-    workers: 2,
     want: Want::Outcome(&[(9, TABLE_U_DELETED)], DELETION_LEFT),
+    ..PLAIN
 };
+
+pub const DELETION: &Case = &KEPT;
 
 /// The same after a put of `a`. The output has two blocks.
 pub const DELETION_BLOCKS: &Case = &Case {
-    level: 1,
     files: &[(7, 138, b"a\x01\x01\0\0\0\0\0\0", b"u\x01\x02\0\0\0\0\0\0")],
     tables: &[TABLE_A_U_TWICE],
-    grandparents: &[],
-    deeper: &[(3, 1, b"t0\x01\x01\0\0\0\0\0\0", b"v0\x01\x01\0\0\0\0\0\0")],
-    oldest: 4,
-    last_sequence: 4,
-    first_number: 9,
     options: FOUR_BLOCKS,
-    workers: 2,
     want: Want::Outcome(&[(9, TABLE_A_U_DELETED)], DELETION_BLOCKS_EDIT),
+    ..KEPT
 };
 
 /// Outputs end at grandparents of more than ten times the file size: after `b`, and after `f`.
-pub const GRANDPARENTS: &Case = &Case {
+const APART: Case = Case {
     level: 0,
     files: &[
         (7, 127, b"a\x01\x01\0\0\0\0\0\0", b"f\x01\x04\0\0\0\0\0\0"),
@@ -99,26 +119,23 @@ pub const GRANDPARENTS: &Case = &Case {
         (3, 60, b"d0\x01\x01\0\0\0\0\0\0", b"d0\x01\x01\0\0\0\0\0\0"),
         (3, 60, b"ff\x01\x01\0\0\0\0\0\0", b"ff\x01\x01\0\0\0\0\0\0"),
     ],
-    deeper: &[],
     oldest: 9,
-    last_sequence: 9,
-    first_number: 5,
     options: Options {
-        block_size: 4_096,
-        restart_interval: 16,
         file_size: 10,
+        ..WIDE
     },
-    workers: 2,
     want: Want::Outcome(
         &[(5, TABLE_A_AND_B), (6, TABLE_F), (7, TABLE_G)],
         GRANDPARENTS_EDIT,
     ),
+    ..PLAIN
 };
+
+pub const GRANDPARENTS: &Case = &APART;
 
 /// An output of two blocks ends at a grandparent of more than ten times the file size: after `b`.
 /// The other one has three blocks.
 pub const GRANDPARENT_BLOCKS: &Case = &Case {
-    level: 0,
     files: &[
         (7, 127, b"a\x01\x01\0\0\0\0\0\0", b"f\x01\x04\0\0\0\0\0\0"),
         (8, 127, b"b\x01\x02\0\0\0\0\0\0", b"g\x01\x05\0\0\0\0\0\0"),
@@ -132,84 +149,35 @@ pub const GRANDPARENT_BLOCKS: &Case = &Case {
         b"bb\x01\x01\0\0\0\0\0\0",
         b"bb\x01\x01\0\0\0\0\0\0",
     )],
-    deeper: &[],
-    oldest: 9,
-    last_sequence: 9,
-    first_number: 5,
     options: FOUR_BLOCKS,
-    workers: 2,
     want: Want::Outcome(
         &[(5, TABLE_A_B_BLOCKS), (6, TABLE_F_G_U_BLOCKS)],
         GRANDPARENT_BLOCKS_EDIT,
     ),
-};
-
-/// Each entry fills a block, and each block an output.
-pub const OUTPUTS: &Case = &Case {
-    level: 1,
-    files: &[A, C, B],
-    tables: &[TABLE, TABLE_C, TABLE_B],
-    grandparents: &[],
-    deeper: &[],
-    oldest: 1,
-    last_sequence: 9,
-    first_number: 5,
-    options: SMALLEST,
-    workers: 2,
-    want: ABC,
+    ..APART
 };
 
 /// Each entry fills a block, and two blocks an output.
 pub const SIZE_BLOCKS: &Case = &Case {
-    level: 1,
     files: &[A, C, B, F],
     tables: &[TABLE, TABLE_C, TABLE_B, TABLE_F],
-    grandparents: &[],
-    deeper: &[],
-    oldest: 1,
-    last_sequence: 9,
-    first_number: 5,
-    options: TWO_BLOCKS,
-    workers: 2,
     want: Want::Outcome(
         &[(5, TABLE_A_B_BLOCKS), (6, TABLE_C_F_BLOCKS)],
         SIZE_BLOCKS_EDIT,
     ),
-};
-
-/// `OUTPUTS` by four workers.
-pub const FOUR_WORKERS: &Case = &Case {
-    level: 1,
-    files: &[A, C, B],
-    tables: &[TABLE, TABLE_C, TABLE_B],
-    grandparents: &[],
-    deeper: &[],
-    oldest: 1,
-    last_sequence: 9,
-    first_number: 5,
-    options: SMALLEST,
-    workers: 4,
-    want: ABC,
+    ..PLAIN
 };
 
 /// Two inputs have a changed byte in their data blocks. Without it an output would have two blocks.
 pub const SPOILT: &Case = &Case {
-    level: 1,
     files: &[A, C, B],
     tables: &[TABLE_SPOILT, TABLE_C, TABLE_B_TWO_SPOILT],
-    grandparents: &[],
-    deeper: &[],
-    oldest: 1,
-    last_sequence: 9,
-    first_number: 5,
-    options: TWO_BLOCKS,
-    workers: 2,
     want: Want::Refused(FaultName::Trailer, Some(0)),
+    ..PLAIN
 };
 
 /// The third of six inputs has a changed byte in its data block.
 pub const THIRD_SPOILT: &Case = &Case {
-    level: 1,
     files: &[A, C, B, F, G, U],
     tables: &[
         TABLE,
@@ -219,12 +187,6 @@ pub const THIRD_SPOILT: &Case = &Case {
         TABLE_G,
         TABLE_U,
     ],
-    grandparents: &[],
-    deeper: &[],
-    oldest: 1,
-    last_sequence: 9,
-    first_number: 5,
-    options: TWO_BLOCKS,
-    workers: 2,
     want: Want::Refused(FaultName::Trailer, Some(2)),
+    ..PLAIN
 };

@@ -130,40 +130,24 @@ pub fn merged(alloc: Global) -> Result<bool, Fault> {
 
 /// The user keys of a table's entries, and those of them that a seek, or the merge of a range,
 /// leaves.
-pub struct Left<'l> {
-    pub whole: &'l [u8],
-    pub kept: &'l [u8],
-}
+pub type Left<'l> = (&'l [u8], &'l [u8]);
 
 /// What a seek of `c` leaves of three tables.
-const SOUGHT: &[Left<'static>] = &[
-    Left {
-        whole: b"ace",
-        kept: b"ce",
-    },
-    Left {
-        whole: b"bd",
-        kept: b"d",
-    },
-    Left {
-        whole: b"acf",
-        kept: b"cf",
-    },
-];
+const SOUGHT: &[Left<'static>] = &[(b"ace", b"ce"), (b"bd", b"d"), (b"acf", b"cf")];
 
 /// Whether a cursor has just the entries that are left; if memory was refused, maybe the last of
 /// those before them too.
 fn is_left<'a, S: Cursor<'a, Bytewise>>(
     alloc: Global,
     cursor: &mut S,
-    left: &Left<'_>,
+    (whole, kept): Left<'_>,
     was_refused: bool,
 ) -> Result<bool, Fault> {
     let users = users_left(alloc, cursor)?;
     if was_refused {
-        return Ok(left.whole.ends_with(users.as_slice()) && users.ends_with(left.kept));
+        return Ok(whole.ends_with(users.as_slice()) && users.ends_with(kept));
     }
-    Ok(users.as_slice() == left.kept)
+    Ok(users.as_slice() == kept)
 }
 
 /// Whether that holds of each of these cursors. It takes them to their ends.
@@ -177,7 +161,7 @@ pub fn are_left(
         let Some(cursor) = cursors.get_mut(place) else {
             return Ok(false);
         };
-        if !is_left(alloc, cursor, &lefts[place], was_refused)? {
+        if !is_left(alloc, cursor, lefts[place], was_refused)? {
             return Ok(false);
         }
     }

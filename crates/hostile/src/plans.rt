@@ -51,16 +51,7 @@ fn runs_of<'a>(alloc: Global, bytes: &'a [u8]) -> Result<Vec<RangeRun<'a>>, Faul
 }
 
 /// What the merge from `c` to `f` leaves of two tables.
-const MERGED: &[Left<'static>] = &[
-    Left {
-        whole: b"bd",
-        kept: b"",
-    },
-    Left {
-        whole: b"acf",
-        kept: b"f",
-    },
-];
+const MERGED: &[Left<'static>] = &[(b"bd", b""), (b"acf", b"f")];
 
 /// Whether the second of three ranges keeps two entries of these cursors, and each of them has left
 /// what is after the range.

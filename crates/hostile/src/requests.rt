@@ -2,13 +2,13 @@
 //! beside them.
 
 use crate::case::{Case, Meta, Want};
+use crate::cases::{PLAIN, WIDE};
 use crate::rows::{Compaction, Workers};
 use crate::worked_bytes::{
     A_AT_ONE, B_AT_ONE, B_AT_TWO, B_AT_ZERO, C_AT_ONE, TABLE, TABLE_B_AT_ONE, TABLE_B_SPOILT,
     TABLE_OF_ANOTHER_MAGIC, TABLE_SPOILT, TABLE_U, U_AT_ONE,
 };
 use coding::FaultName::{Bounds, Duplicate, Magic, Options as OptionsFault, Trailer};
-use table::Options;
 
 /// Files of `a`, of `b` and of `u`, each put at 1.
 const A: Meta<'static> = (97, 114, &A_AT_ONE, &A_AT_ONE);
@@ -22,23 +22,14 @@ const TO_B: Meta<'static> = (3, 1, &A_AT_ONE, &B_AT_ONE);
 
 const TO_C: Meta<'static> = (3, 1, &A_AT_ONE, &C_AT_ONE);
 
-/// What the requests have but for what they show.
-const REQUEST: Case = Case {
-    level: 1,
-    files: &[],
-    tables: &[],
-    grandparents: &[],
-    deeper: &[],
+/// A request of one input that is accepted.
+pub const REQUEST: Case = Case {
+    files: &[A],
+    tables: &[TABLE],
     oldest: 9,
-    last_sequence: 9,
     first_number: 9,
-    options: Options {
-        block_size: 4_096,
-        restart_interval: 16,
-        file_size: 2_097_152,
-    },
-    workers: 2,
-    want: Want::Accepted,
+    options: WIDE,
+    ..PLAIN
 };
 
 /// Two faults in one request, grandparents whose largest keys rise, stay the same and fall, and
@@ -77,10 +68,7 @@ pub const REQUESTS: &[Compaction] = &[
     ),
     (
         &Case {
-            files: &[A],
-            tables: &[TABLE],
             grandparents: &[TO_B, TO_C],
-            want: Want::Accepted,
             ..REQUEST
         },
         Workers::Free,
@@ -88,8 +76,6 @@ pub const REQUESTS: &[Compaction] = &[
     ),
     (
         &Case {
-            files: &[A],
-            tables: &[TABLE],
             grandparents: &[TO_B, TO_B],
             want: Want::Refused(OptionsFault, None),
             ..REQUEST
@@ -99,8 +85,6 @@ pub const REQUESTS: &[Compaction] = &[
     ),
     (
         &Case {
-            files: &[A],
-            tables: &[TABLE],
             grandparents: &[TO_C, TO_B],
             want: Want::Refused(OptionsFault, None),
             ..REQUEST

@@ -1,3 +1,4 @@
+use crate::pick_tests::version_of;
 use coding::{Fault, FaultName};
 use edit::{FileMeta, Version, VersionEdit, edit_laws, snapshot_law};
 use ikey::Bytewise;
@@ -158,12 +159,8 @@ fn version_of_two(
     first: &[u8],
     second: &[u8],
 ) -> Result<Version, Fault> {
-    let edit = VersionEdit::decode(alloc, first).expect(rt, "an edit");
-    let version = Version::empty(alloc)
-        .applied::<Bytewise>(edit)
-        .expect(rt, "a version");
     let edit = VersionEdit::decode(alloc, second).expect(rt, "an edit");
-    version.apply::<Bytewise>(alloc, &edit)
+    version_of(rt, alloc, first).apply::<Bytewise>(alloc, &edit)
 }
 
 /// Whether these are the bytes of a version's snapshot.

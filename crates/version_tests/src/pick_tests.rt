@@ -62,7 +62,7 @@ const LEVELS: &[u8] = b"\
     \0\0\0\0\0";
 
 /// The version that an edit makes of the empty one.
-fn version_of(rt: &impl Abort, alloc: Global, edit: &[u8]) -> Version {
+pub(crate) fn version_of(rt: &impl Abort, alloc: Global, edit: &[u8]) -> Version {
     let edit = VersionEdit::decode(alloc, edit).expect(rt, "an edit");
     Version::empty(alloc)
         .applied::<Bytewise>(edit)

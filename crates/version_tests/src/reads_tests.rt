@@ -1,8 +1,9 @@
 //! Which versions are lawful, the order of their tables, what they answer, and whether entries
 //! fall.
 
+use crate::pick_tests::version_of;
 use coding::FaultName;
-use edit::{FileMeta, Version, VersionEdit};
+use edit::{FileMeta, Version};
 use ikey::{Bytewise, InternalKey};
 use reads::{
     NumberedTable, all_files, answers_newest_first, falls_in, files_newest_first, get, is_below,
@@ -122,14 +123,6 @@ const ROWS: &[Row] = &[
         gets: &[],
     },
 ];
-
-/// The version that an edit makes of the empty one.
-fn version_of(rt: &impl Abort, alloc: Global, edit: &[u8]) -> Version {
-    let edit = VersionEdit::decode(alloc, edit).expect(rt, "an edit");
-    Version::empty(alloc)
-        .applied::<Bytewise>(edit)
-        .expect(rt, "a version")
-}
 
 /// The table of a file.
 fn table_of(rt: &impl Abort, alloc: Global, given: Given) -> NumberedTable<'static, Bytewise> {

@@ -1,7 +1,8 @@
 //! Outcomes that are installed, with the answers and the files left.
 
+use crate::compact_tests::tables::{B, U4_DELETED, U4_DELETED_U2};
 use crate::store_tests::rows::{
-    AA, B, B_AA, DELETION_LEFT, FILE_ABOVE, Files, NINE, SHORTLEX, T_AND_V, TWO_ENTRIES, U4_DELETED,
+    AA, B_AA, DELETION_LEFT, FILE_ABOVE, Files, NINE, NUMBER_10, SHORTLEX, T_AND_V,
 };
 use adoption::Comparison;
 use coding::FaultName;
@@ -22,12 +23,6 @@ pub(crate) struct Row {
 
 /// Compared, with the last sequence of the edit and all later ones.
 const PLAINLY: Comparison<'static> = Comparison::With(Snapshots::Listed(&[]));
-
-/// `edit: log 3, previous 0, next 11, last 4, pointer 1 u@2 put, delete 1 7, file 2 10 113 u@4 del
-/// .. u@4 del`
-const KEPT_EDIT: &[u8] = b"\
-    \x02\x03\x09\0\x03\x0b\x04\x04\x05\x01\x09u\x01\x02\0\0\0\0\0\0\x06\x01\x07\x07\x02\x0aq\x09u\0\
-    \x04\0\0\0\0\0\0\x09u\0\x04\0\0\0\0\0\0";
 
 /// `edit: log 3, previous 0, next 11, last 4, pointer 1 u@2 put, delete 1 7`
 const EMPTY_EDIT: &[u8] = b"\
@@ -115,8 +110,8 @@ const LOWER_EDIT: &[u8] = b"\
 pub(crate) const OWN: Row = Row {
     name: "an outcome where it was made",
     manifest: FILE_ABOVE,
-    seven: TWO_ENTRIES,
-    outcome: &[("EDIT", KEPT_EDIT), ("000010.ldb", U4_DELETED)],
+    seven: U4_DELETED_U2,
+    outcome: &[("EDIT", NUMBER_10), ("000010.ldb", U4_DELETED)],
     comparison: PLAINLY,
     answer: Ok("output 10 113\ndeleted 1 7\ninstalled MANIFEST-000009\n"),
     left: &[
@@ -206,7 +201,7 @@ pub(crate) const REFUSED_ROWS: &[Row] = &[
     Row {
         name: "a newer file of level 0 that is left beside",
         manifest: TWO_BESIDE,
-        outcome: &[("EDIT", ALONE_EDIT), ("000010.ldb", TWO_ENTRIES)],
+        outcome: &[("EDIT", ALONE_EDIT), ("000010.ldb", U4_DELETED_U2)],
         answer: Err(FaultName::Apply),
         ..REFUSED
     },

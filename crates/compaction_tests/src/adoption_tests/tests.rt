@@ -1,8 +1,8 @@
 //! Outcomes that are installed in folders in memory.
 
 use crate::adoption_tests::rows::{FIRST_PART, INSTALLED, OWN, REFUSED_ROWS, Row, SECOND_PART};
-use crate::store_tests::rows::{CURRENT, Files, T_AND_V};
-use crate::store_tests::tests::is_answer;
+use crate::store_tests::rows::{CURRENT, T_AND_V};
+use crate::store_tests::tests::{MEMORY, holds, is_answer};
 use adoption::{begin_taking, install_taken, take_outcome};
 use answers::{CompactionEnd, compaction_lines};
 use coding::{Fault, FaultName};
@@ -13,9 +13,6 @@ use std::test::*;
 use std::thread::Threads;
 use store::{Open, SyncedVersion, checkers, sync_version};
 
-/// How many bytes of tables are held while a version is tested.
-const MEMORY: u64 = 1_073_741_824;
-
 /// The files of the folder of a row.
 fn files_of(row: &Row) -> [(&'static str, &'static [u8]); 4] {
     [
@@ -24,16 +21,6 @@ fn files_of(row: &Row) -> [(&'static str, &'static [u8]); 4] {
         ("000007.ldb", row.seven),
         ("000008.ldb", T_AND_V),
     ]
-}
-
-/// Whether a folder holds these files.
-fn holds(folder: &Shelf<'_>, files: Files) -> bool {
-    for (name, bytes) in files {
-        if folder.file(name) != Some(*bytes) {
-            return false;
-        }
-    }
-    true
 }
 
 /// What a folder is opened as, synced.

@@ -10,6 +10,14 @@ use keep::Snapshots;
 /// The first sequence that no snapshot may have, 2^56 - 1.
 const TOO_HIGH: u64 = 72_057_594_037_927_935;
 
+/// A spoilt block, if the request isn't refused for its snapshots before.
+const SPOILT: Row = Row {
+    files: SAME,
+    tables: &[U5_BLOCK],
+    answer: Answer::Refused(FaultName::Snapshot, None),
+    ..PLAIN
+};
+
 /// Rows that are refused.
 pub(crate) const REFUSED: &[Row] = &[
     Row {
@@ -28,82 +36,64 @@ pub(crate) const REFUSED: &[Row] = &[
     },
     Row {
         name: "a high oldest snapshot, and a spoilt block",
-        files: SAME,
-        tables: &[U5_BLOCK],
         snapshots: Snapshots::From(TOO_HIGH),
-        answer: Answer::Refused(FaultName::Snapshot, None),
-        ..PLAIN
+        ..SPOILT
     },
     Row {
         name: "a high listed snapshot, and a spoilt block",
-        files: SAME,
-        tables: &[U5_BLOCK],
         snapshots: Snapshots::Listed(&[TOO_HIGH]),
-        answer: Answer::Refused(FaultName::Snapshot, None),
-        ..PLAIN
+        ..SPOILT
     },
     Row {
         name: "a high last sequence, and a spoilt block",
-        files: SAME,
-        tables: &[U5_BLOCK],
         last_sequence: TOO_HIGH,
-        answer: Answer::Refused(FaultName::Snapshot, None),
-        ..PLAIN
+        ..SPOILT
     },
     Row {
         name: "a snapshot that is listed twice, and a spoilt block",
-        files: SAME,
-        tables: &[U5_BLOCK],
         snapshots: Snapshots::Listed(&[6, 6]),
         answer: Answer::Refused(FaultName::SnapshotList, None),
-        ..PLAIN
+        ..SPOILT
     },
     Row {
         name: "a snapshot above the last sequence, and a spoilt block",
-        files: SAME,
-        tables: &[U5_BLOCK],
         snapshots: Snapshots::Listed(&[10]),
         answer: Answer::Refused(FaultName::SnapshotList, None),
-        ..PLAIN
+        ..SPOILT
     },
     Row {
         name: "two spoilt blocks around an input, and job 0 after job 2",
-        files: SAME,
         tables: &[U5_BLOCK, U5, U5_BLOCK],
         runs: &[(WHOLE, 2), (AT_C_AND_F, 2), (AT_MANY, 2)],
         wait: Wait::ForTheLast,
         boards: 1,
         answer: Answer::Refused(FaultName::Trailer, Some(0)),
-        ..PLAIN
+        ..SPOILT
     },
     Row {
         name: "two spoilt blocks",
-        files: SAME,
         tables: &[U5_BLOCK, U5_BLOCK],
         answer: Answer::Refused(FaultName::Trailer, Some(0)),
-        ..PLAIN
+        ..SPOILT
     },
     Row {
         name: "another magic between two of one key",
-        files: SAME,
         tables: &[U5, U5_MAGIC, U5],
         answer: Answer::Refused(FaultName::Magic, Some(1)),
-        ..PLAIN
+        ..SPOILT
     },
     Row {
         name: "two of one key, and no number left",
-        files: SAME,
         tables: &[U5, U5],
         first_number: u64::MAX,
         answer: Answer::Refused(FaultName::Duplicate, None),
-        ..PLAIN
+        ..SPOILT
     },
     Row {
         name: "no number left",
-        files: SAME,
         tables: &[U5],
         first_number: u64::MAX,
         answer: Answer::Refused(FaultName::Numbers, None),
-        ..PLAIN
+        ..SPOILT
     },
 ];

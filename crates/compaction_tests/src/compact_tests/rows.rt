@@ -3,12 +3,9 @@
 use crate::compact_tests::edits::*;
 use crate::compact_tests::gates::Wait;
 use crate::compact_tests::tables::*;
+use crate::tested_tables::Parting;
 use coding::FaultName;
 use keep::Snapshots;
-
-/// The boundaries of a split: the first key of two bytes, the step from one to the next, and their
-/// number. A last byte 0 is left out.
-pub(crate) type Parting = (u16, u16, u16);
 
 /// Into one range.
 pub(crate) const WHOLE: Parting = (0, 0, 0);
@@ -91,18 +88,33 @@ pub(crate) const PLAIN: Row = Row {
     answer: Answer::Refused(FaultName::NoInput, None),
 };
 
-/// Level 1, and the last sequence 4.
-const LEVEL_ONE: Row = Row {
+/// A deletion over a put at level 1, and the last sequence 4.
+pub(crate) const LEVEL_ONE: Row = Row {
+    files: DELETED_FILE,
     from: 1,
     level: 1,
+    tables: &[U4_DELETED_U2],
+    snapshots: Snapshots::From(4),
     last_sequence: 4,
+    answer: Answer::Tables(&[], NOTHING_LEFT),
     ..PLAIN
 };
 
-/// Outputs from number 5 on, each of which is full with ten bytes.
+/// Three grandparents, and outputs from number 5 on, each of which is full with ten bytes.
 const TEN_BYTES: Row = Row {
+    files: APART_FILES,
+    tables: &[A_F, B_G, C_DELETED],
+    snapshots: Snapshots::From(9),
     first_number: 5,
     file_size: 10,
+    answer: Answer::Tables(&[(5, A_B), (6, F), (7, G)], b""),
+    ..PLAIN
+};
+
+/// Newer entries of a user key, and older ones.
+const BESIDE: Row = Row {
+    files: NEWER_AND_OLDER,
+    tables: &[U9_U5, U7_U3],
     ..PLAIN
 };
 
@@ -119,45 +131,29 @@ const SMALLEST: Row = Row {
 pub(crate) const WRITTEN: &[Row] = &[
     Row {
         name: "a deletion",
-        files: DELETED_FILE,
-        tables: &[U4_DELETED_U2],
-        snapshots: Snapshots::From(4),
-        answer: Answer::Tables(&[], NOTHING_LEFT),
         ..LEVEL_ONE
     },
     Row {
         name: "a deletion above a deeper file",
         files: DELETED_FILE_ABOVE,
-        tables: &[U4_DELETED_U2],
-        snapshots: Snapshots::From(4),
         answer: Answer::Tables(&[(9, U4_DELETED)], DELETION_LEFT),
         ..LEVEL_ONE
     },
     Row {
         name: "a deletion and no snapshot",
-        files: DELETED_FILE,
-        tables: &[U4_DELETED_U2],
-        answer: Answer::Tables(&[], NOTHING_LEFT),
+        snapshots: Snapshots::Listed(&[]),
         ..LEVEL_ONE
     },
     Row {
         name: "three grandparents",
-        files: APART_FILES,
-        tables: &[A_F, B_G, C_DELETED],
-        snapshots: Snapshots::From(9),
-        answer: Answer::Tables(&[(5, A_B), (6, F), (7, G)], b""),
         ..TEN_BYTES
     },
     // Each of the three boards has three jobs.
     Row {
         name: "three grandparents, and job 0 after job 2",
-        files: APART_FILES,
-        tables: &[A_F, B_G, C_DELETED],
-        snapshots: Snapshots::From(9),
         runs: &[(AT_C_AND_F, 2)],
         wait: Wait::ForTheLast,
         boards: 3,
-        answer: Answer::Tables(&[(5, A_B), (6, F), (7, G)], b""),
         ..TEN_BYTES
     },
     // Each of the three boards has two jobs. A caller that does both itself would give up here.
@@ -203,10 +199,8 @@ pub(crate) const WRITTEN: &[Row] = &[
     },
     Row {
         name: "newer and older entries",
-        files: NEWER_AND_OLDER,
-        tables: &[U9_U5, U7_U3],
         answer: Answer::Tables(&[(9, U9)], b""),
-        ..PLAIN
+        ..BESIDE
     },
     Row {
         name: "an entry above the last sequence",
@@ -221,34 +215,25 @@ pub(crate) const WRITTEN: &[Row] = &[
 pub(crate) const LISTED: &[Row] = &[
     Row {
         name: "a deletion and a listed snapshot",
-        files: DELETED_FILE,
-        tables: &[U4_DELETED_U2],
         snapshots: Snapshots::Listed(&[2]),
         answer: Answer::Tables(&[(9, U4_DELETED_U2)], b""),
         ..LEVEL_ONE
     },
     Row {
         name: "a deletion and the last sequence listed",
-        files: DELETED_FILE,
-        tables: &[U4_DELETED_U2],
         snapshots: Snapshots::Listed(&[4]),
-        answer: Answer::Tables(&[], NOTHING_LEFT),
         ..LEVEL_ONE
     },
     Row {
         name: "a deletion above a deeper file and the last sequence listed",
         files: DELETED_FILE_ABOVE,
-        tables: &[U4_DELETED_U2],
         snapshots: Snapshots::Listed(&[4]),
         answer: Answer::Tables(&[(9, U4_DELETED)], DELETION_LEFT),
         ..LEVEL_ONE
     },
     Row {
         name: "three grandparents and the last sequence listed",
-        files: APART_FILES,
-        tables: &[A_F, B_G, C_DELETED],
         snapshots: Snapshots::Listed(&[9]),
-        answer: Answer::Tables(&[(5, A_B), (6, F), (7, G)], b""),
         ..TEN_BYTES
     },
     Row {
@@ -261,34 +246,26 @@ pub(crate) const LISTED: &[Row] = &[
     },
     Row {
         name: "snapshot 5",
-        files: NEWER_AND_OLDER,
-        tables: &[U9_U5, U7_U3],
         snapshots: Snapshots::Listed(&[5]),
         answer: Answer::Tables(&[(9, U9_U5)], b""),
-        ..PLAIN
+        ..BESIDE
     },
     Row {
         name: "snapshot 6",
-        files: NEWER_AND_OLDER,
-        tables: &[U9_U5, U7_U3],
         snapshots: Snapshots::Listed(&[6]),
         answer: Answer::Tables(&[(9, U9_U5)], b""),
-        ..PLAIN
+        ..BESIDE
     },
     Row {
         name: "snapshot 7",
-        files: NEWER_AND_OLDER,
-        tables: &[U9_U5, U7_U3],
         snapshots: Snapshots::Listed(&[7]),
         answer: Answer::Tables(&[(9, U9_U7)], b""),
-        ..PLAIN
+        ..BESIDE
     },
     Row {
         name: "snapshots 3 and 6",
-        files: NEWER_AND_OLDER,
-        tables: &[U9_U5, U7_U3],
         snapshots: Snapshots::Listed(&[3, 6]),
         answer: Answer::Tables(&[(9, U9_U5_U3)], b""),
-        ..PLAIN
+        ..BESIDE
     },
 ];

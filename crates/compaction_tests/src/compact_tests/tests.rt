@@ -2,15 +2,15 @@
 
 use crate::compact_tests::gates::Held;
 use crate::compact_tests::refused_rows::REFUSED;
-use crate::compact_tests::rows::{Answer, LISTED, Parting, Row, Run, WRITTEN};
+use crate::compact_tests::rows::{Answer, LISTED, Row, Run, WRITTEN};
 use crate::compact_tests::tables::{A_F, U4_DELETED_U2};
-use crate::tested_tables::version_after;
+use crate::tested_tables::{are_tables, inputs_after, keys_of};
 use coding::Fault;
 use compact::{Request, compact, matches_metadata};
 use edit::Outcome;
 use ikey::Bytewise;
 use merge::add_cursor;
-use pick::{Inputs, inputs};
+use pick::Inputs;
 use split::{Range, Split};
 use std::alloc::Global;
 use std::process::Abort;
@@ -18,29 +18,16 @@ use std::test::*;
 use std::thread::Threads;
 use table::{Options, check};
 
-/// The split into these ranges.
-fn split_of(rt: &impl Abort, alloc: Global, (first, step, count): Parting) -> Split<Bytewise> {
-    let mut keys = Vec::new(alloc);
-    for place in 0..count {
-        let key = place.wrapping_mul(step).wrapping_add(first).to_be_bytes();
-        let len = if key[1] == 0 { 1 } else { 2 };
-        let key = Vec::from_slice(alloc, &key[..len]).expect(rt, "memory");
-        keys.push(key).expect(rt, "memory");
-    }
-    Split::from_keys(keys).expect(rt, "a split")
-}
-
 /// The inputs of a row.
-fn picked(rt: &impl Abort, alloc: Global, row: &Row) -> Inputs {
-    let version = version_after(rt, alloc, row.files);
-    let mut picked = inputs::<Bytewise>(alloc, &version, row.from).expect(rt, "inputs");
+pub(crate) fn picked(rt: &impl Abort, alloc: Global, row: &Row) -> Inputs {
+    let mut picked = inputs_after(rt, alloc, row.files, row.from);
     picked.level = row.level;
     picked.files.truncate(row.tables.len());
     picked
 }
 
 /// The request of a row over these inputs.
-fn asked<'x>(row: &Row, picked: &'x Inputs) -> Request<'x> {
+pub(crate) fn asked<'x>(row: &Row, picked: &'x Inputs) -> Request<'x> {
     Request {
         picked,
         tables: row.tables,
@@ -66,18 +53,8 @@ fn answer_of<R: Threads + Sync + Abort>(
     gate: &Held,
 ) -> Result<Outcome, Fault> {
     let picked = picked(rt, alloc, row);
-    let split = split_of(rt, alloc, parting);
+    let split = Split::from_keys(keys_of(rt, alloc, parting)).expect(rt, "a split");
     compact::<Bytewise, Held, R>(rt, alloc, &asked(row, &picked), &split, workers, gate)
-}
-
-/// Whether tables have these numbers and bytes.
-fn are_tables(tables: &[(u64, Vec<u8>)], wanted: &[(u64, &[u8])]) -> bool {
-    for (table, one) in tables.iter().zip(wanted) {
-        if table.0 != one.0 || table.1.as_slice() != one.1 {
-            return false;
-        }
-    }
-    tables.len() == wanted.len()
 }
 
 /// Whether an answer is this one.

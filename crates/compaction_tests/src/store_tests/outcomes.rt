@@ -1,8 +1,9 @@
 //! Outcomes of folders in memory that are not installed, and the folders that they are written
 //! into.
 
-use crate::store_tests::rows::{CURRENT, Files, KEPT, ONE_FILE, Row, TWO_ENTRIES, U4_DELETED};
-use crate::store_tests::tests::{MEMORY, files_of, holds};
+use crate::compact_tests::tables::{U4_DELETED, U4_DELETED_U2};
+use crate::store_tests::rows::{CURRENT, Files, KEPT, NUMBER_10, ONE_FILE, Row};
+use crate::store_tests::tests::{MEMORY, files_of, holds, is_answer};
 use answers::{CompactionEnd, compaction_lines};
 use coding::{Fault, FaultName};
 use edit::Outcome;
@@ -26,12 +27,6 @@ struct OutcomeRow {
     answer: Result<&'static str, FaultName>,
     written: Files,
 }
-
-/// `edit: log 3, previous 0, next 11, last 4, pointer 1 u@2 put, delete 1 7, file 2 10 113 u@4 del
-/// .. u@4 del`
-const NUMBER_10: &[u8] = b"\
-    \x02\x03\x09\0\x03\x0b\x04\x04\x05\x01\x09u\x01\x02\0\0\0\0\0\0\x06\x01\x07\x07\x02\x0aq\x09u\
-    \0\x04\0\0\0\0\0\0\x09u\0\x04\0\0\0\0\0\0";
 
 /// `edit: log 3, previous 0, next 301, last 4, pointer 1 u@2 put, delete 1 7, file 2 300 113 u@4
 /// del .. u@4 del`
@@ -120,34 +115,23 @@ fn is_outcome<R: Threads + Sync + Abort>(
     folder.steps().is_empty()
         && match answer {
             Ok(made) => {
-                is_text(&outcome_lines(rt, alloc, &made), asked.answer)
+                is_answer(&Ok(outcome_lines(rt, alloc, &made)), asked.answer)
                     && is_written(rt, alloc, &made.outcome, asked.written)
             }
-            Err(fault) => asked.answer == Err(fault.name) && fault == Fault::of(fault.name),
+            Err(fault) => is_answer(&Err(fault), asked.answer),
         }
-}
-
-/// Whether lines are those that an answer wants.
-fn is_text(lines: &[u8], wanted: Result<&str, FaultName>) -> bool {
-    match wanted {
-        Ok(text) => lines == text.as_bytes(),
-        Err(_) => false,
-    }
 }
 
 #[test]
 fn outcomes_that_are_written(rt: HostRuntime) {
     for asked in OUTCOMES {
-        assert!(rt;
-            is_outcome(&rt, rt.alloc(), asked, true),
-            "{:?}",
-            asked.first
-        );
-        assert!(rt;
-            is_outcome(&rt, rt.alloc(), asked, false),
-            "{:?}",
-            asked.first
-        );
+        for is_tested in [true, false] {
+            assert!(rt;
+                is_outcome(&rt, rt.alloc(), asked, is_tested),
+                "{:?} {is_tested}",
+                asked.first
+            );
+        }
     }
 }
 
@@ -165,7 +149,7 @@ const NEEDED: &[FilesRow] = &[
         files: &[
             ("CURRENT", CURRENT),
             ("MANIFEST-000005", ONE_FILE),
-            ("000007.sst", TWO_ENTRIES),
+            ("000007.sst", U4_DELETED_U2),
         ],
         level: 1,
         answer: Ok("CURRENT\nMANIFEST-000005\n000007.sst\n"),
@@ -181,10 +165,8 @@ const NEEDED: &[FilesRow] = &[
 fn are_needed(rt: &impl Abort, alloc: Global, asked: &FilesRow) -> bool {
     let mut folder = Shelf::new(alloc, asked.files);
     let opened = open(alloc, &mut folder).expect(rt, "an open folder");
-    match files_to_compact(alloc, &mut folder, &opened, asked.level) {
-        Ok(lines) => is_text(&lines, asked.answer),
-        Err(fault) => asked.answer == Err(fault.name),
-    }
+    let answer = files_to_compact(alloc, &mut folder, &opened, asked.level);
+    is_answer(&answer, asked.answer)
 }
 
 #[test]

@@ -1,8 +1,9 @@
 //! How often a compaction reads the files of its folder.
 
+use crate::compact_tests::tables::U9;
 use crate::store_tests::rows::{CURRENT, DEFAULTS, Files};
 use crate::store_tests::tests::{MEMORY, step_lines};
-use crate::tested_tables::{B_AT_TWO, U_AT_NINE, U_AT_ONE};
+use crate::tested_tables::{B_AT_TWO, U_AT_ONE};
 use shelf::Shelf;
 use std::process::Abort;
 use std::test::*;
@@ -41,7 +42,7 @@ const FILES: Files = &[
     ("000010.ldb", U_AT_ONE),
     ("000011.ldb", OLDER),
     ("000012.ldb", BEHIND),
-    ("000013.ldb", U_AT_NINE),
+    ("000013.ldb", U9),
 ];
 
 /// The lines of the compaction of level 0. The table left is `a` at 1, `m` at 2 and `u` at 9, of

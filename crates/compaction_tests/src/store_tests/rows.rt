@@ -1,5 +1,6 @@
 //! Folders that are compacted, with their answers and the files left.
 
+use crate::compact_tests::tables::{B, U4_DELETED};
 use coding::FaultName;
 use keep::Snapshots;
 use store::Settings;
@@ -13,7 +14,7 @@ pub(crate) type Files = &'static [(&'static str, &'static [u8])];
 #[derive(Clone, Copy)]
 pub(crate) struct Row {
     pub name: &'static str,
-    /// If it is empty, `ONE_FILE` is meant, and as file 7 `TWO_ENTRIES`.
+    /// If it is empty, `ONE_FILE` is meant, and as file 7 `U4_DELETED_U2`.
     pub manifest: &'static [u8],
     pub seven: &'static [u8],
     pub eight: &'static [u8],
@@ -64,13 +65,6 @@ pub(crate) const ONE_FILE: &[u8] = b"\
     \x23\x1fG\xbe\x3c\0\x01\x01\x1aleveldb.BytewiseComparator\x02\x03\x09\0\x03\x09\x04\x04\x07\
     \x01\x07\x7d\x09u\0\x04\0\0\0\0\0\0\x09u\x01\x02\0\0\0\0\0\0";
 
-/// `table: u@4 del, u@2 put x`
-pub(crate) const TWO_ENTRIES: &[u8] = b"\
-    \0\x09\0u\0\x04\0\0\0\0\0\0\x01\x08\x01\x01\x02\0\0\0\0\0\0x\0\0\0\0\x01\0\0\0\0\xef\xe0\xe5\
-    \x28\0\0\0\0\x01\0\0\0\0\xc0\xf2\xa1\xb0\0\x09\x02u\x01\x02\0\0\0\0\0\0\0\x20\0\0\0\0\x01\0\0\
-    \0\0\x0a\xb0\x5c\x0c\x25\x082\x16\0\0\0\0\0\0\0\0\0\0\0\0\0\0\0\0\0\0\0\0\0\0\0\0\0\0\0\0\0\0\
-    \0\0\0\0\0\0W\xfb\x80\x8b\x24uG\xdb";
-
 /// The lines of the compaction of level 1 of the folder of that one file, which drops both entries.
 pub(crate) const LINES: &str = "deleted 1 7\ninstalled MANIFEST-000009\n";
 
@@ -100,18 +94,18 @@ pub(crate) const FILE_ABOVE: &[u8] = b"\
     \x01\x07\x7d\x09u\0\x04\0\0\0\0\0\0\x09u\x01\x02\0\0\0\0\0\0\x07\x03\x08\x7f\x09t\x01\x01\0\0\
     \0\0\0\0\x09v\x01\x01\0\0\0\0\0\0";
 
+/// `edit: log 3, previous 0, next 11, last 4, pointer 1 u@2 put, delete 1 7, file 2 10 113 u@4 del
+/// .. u@4 del`
+pub(crate) const NUMBER_10: &[u8] = b"\
+    \x02\x03\x09\0\x03\x0b\x04\x04\x05\x01\x09u\x01\x02\0\0\0\0\0\0\x06\x01\x07\x07\x02\x0aq\x09u\
+    \0\x04\0\0\0\0\0\0\x09u\0\x04\0\0\0\0\0\0";
+
 /// `table: t@1 put x, v@1 put x`
 pub(crate) const T_AND_V: &[u8] = b"\
     \0\x09\x01t\x01\x01\0\0\0\0\0\0x\0\x09\x01v\x01\x01\0\0\0\0\0\0x\0\0\0\0\x01\0\0\0\0\x60\xd8EQ\
     \0\0\0\0\x01\0\0\0\0\xc0\xf2\xa1\xb0\0\x09\x02v\x01\x01\0\0\0\0\0\0\0\x22\0\0\0\0\x01\0\0\0\0\
     \x25\x5e\x5d\xfa\x27\x084\x16\0\0\0\0\0\0\0\0\0\0\0\0\0\0\0\0\0\0\0\0\0\0\0\0\0\0\0\0\0\0\0\0\
     \0\0\0\0W\xfb\x80\x8b\x24uG\xdb";
-
-/// `table: u@4 del`
-pub(crate) const U4_DELETED: &[u8] = b"\
-    \0\x09\0u\0\x04\0\0\0\0\0\0\0\0\0\0\x01\0\0\0\0\x0dk\x91\xcc\0\0\0\0\x01\0\0\0\0\xc0\xf2\xa1\
-    \xb0\0\x09\x02u\0\x04\0\0\0\0\0\0\0\x14\0\0\0\0\x01\0\0\0\0\xee\x7b\xca\xbd\x19\x08\x26\x16\0\
-    \0\0\0\0\0\0\0\0\0\0\0\0\0\0\0\0\0\0\0\0\0\0\0\0\0\0\0\0\0\0\0\0\0\0\0W\xfb\x80\x8b\x24uG\xdb";
 
 /// `log: comparator leveldb.BytewiseComparator, file 1 7 125 u@4 del .. u@2 put, file 3 8 127 t@1
 /// put .. v@1 put | log 3, previous 0, next 11, last 4, pointer 1 u@2 put, delete 1 7, file 2 10
@@ -121,13 +115,6 @@ pub(crate) const DELETION_LEFT: &[u8] = b"\
     \x09u\x01\x02\0\0\0\0\0\0\x07\x03\x08\x7f\x09t\x01\x01\0\0\0\0\0\0\x09v\x01\x01\0\0\0\0\0\0\
     \xcc\xda\x9e\x40\x2f\0\x01\x02\x03\x09\0\x03\x0b\x04\x04\x05\x01\x09u\x01\x02\0\0\0\0\0\0\x06\
     \x01\x07\x07\x02\x0aq\x09u\0\x04\0\0\0\0\0\0\x09u\0\x04\0\0\0\0\0\0";
-
-/// `table: b@2 put x`
-pub(crate) const B: &[u8] = b"\
-    \0\x09\x01b\x01\x02\0\0\0\0\0\0x\0\0\0\0\x01\0\0\0\0\x8d\x9a\xfa\xfe\0\0\0\0\x01\0\0\0\0\xc0\
-    \xf2\xa1\xb0\0\x09\x02b\x01\x02\0\0\0\0\0\0\0\x15\0\0\0\0\x01\0\0\0\0x\xb9Y\xc4\x1a\x08\x27\
-    \x16\0\0\0\0\0\0\0\0\0\0\0\0\0\0\0\0\0\0\0\0\0\0\0\0\0\0\0\0\0\0\0\0\0\0\0\0W\xfb\x80\x8b\x24u\
-    G\xdb";
 
 /// `shortlex: b@2 put x, aa@1 put x`
 pub(crate) const B_AA: &[u8] = b"\

@@ -1,7 +1,8 @@
 //! Compactions of folders in memory.
 
+use crate::compact_tests::tables::U4_DELETED_U2;
 use crate::store_tests::rows::{
-    CURRENT, DEFAULTS, Files, LINES, ONE_FILE, PLAIN, REFUSALS, ROWS, Row, TWO_ENTRIES,
+    CURRENT, DEFAULTS, Files, LINES, ONE_FILE, PLAIN, REFUSALS, ROWS, Row,
 };
 use answers::{CompactionEnd, compaction_lines};
 use coding::{Fault, FaultName};
@@ -31,7 +32,7 @@ pub(crate) fn files_of(row: &Row) -> [(&'static str, &'static [u8]); 4] {
     [
         ("CURRENT", CURRENT),
         ("MANIFEST-000005", or(row.manifest, ONE_FILE)),
-        ("000007.ldb", or(row.seven, TWO_ENTRIES)),
+        ("000007.ldb", or(row.seven, U4_DELETED_U2)),
         ("000008.ldb", row.eight),
     ]
 }

@@ -23,6 +23,7 @@
 //! - **Folders.** CURRENT ends with a newline. A manifest without a record names no comparator. One
 //!   that ends after its first record sets no counter.
 
+use crate::damage::call::Call::{Block, Compact, Current, Decode, Manifest, Records, Table};
 use crate::damage::call::{Answer, Call, answer};
 use crate::damage::source::Source;
 use crate::damage::source::Source::{Plain, Sevens};
@@ -37,36 +38,32 @@ use std::thread::Threads;
 
 /// What is cut off, and the words for it.
 const BEGINNINGS: &[(&str, Call, Source)] = &[
-    ("block", Call::Block, Plain(BLOCK)),
-    ("block of a", Call::Block, Plain(FIRST_BLOCK)),
-    ("block of b", Call::Block, Plain(SECOND_BLOCK)),
-    ("block of both", Call::Block, Plain(BOTH_ENTRIES)),
-    ("block of no entry", Call::Block, Plain(NO_ENTRY)),
-    ("table", Call::Table, Plain(TABLE)),
-    ("table of two entries", Call::Table, Plain(TABLE_U_TWICE)),
-    ("table of a deletion", Call::Table, Plain(TABLE_U_DELETED)),
-    (
-        "table of three blocks",
-        Call::Table,
-        Plain(TABLE_THREE_BLOCKS),
-    ),
-    ("input", Call::Compact, Plain(TABLE)),
-    ("log of an empty record", Call::Records, Plain(EMPTY_LOG)),
+    ("block", Block, Plain(BLOCK)),
+    ("block of a", Block, Plain(FIRST_BLOCK)),
+    ("block of b", Block, Plain(SECOND_BLOCK)),
+    ("block of both", Block, Plain(BOTH_ENTRIES)),
+    ("block of no entry", Block, Plain(NO_ENTRY)),
+    ("table", Table, Plain(TABLE)),
+    ("table of two entries", Table, Plain(TABLE_U_TWICE)),
+    ("table of a deletion", Table, Plain(TABLE_U_DELETED)),
+    ("table of three blocks", Table, Plain(TABLE_THREE_BLOCKS)),
+    ("input", Compact, Plain(TABLE)),
+    ("log of an empty record", Records, Plain(EMPTY_LOG)),
     (
         "log over a block's end",
-        Call::Records,
+        Records,
         Sevens(
             b"\xb6d\x5c\x18\xf2\x7f\x01",
             32_754,
             b"dQ\xd0\xe9\0\0\x02,t\x1b\xd8\x01\0\x04x",
         ),
     ),
-    ("edit of no output", Call::Decode, Plain(NOTHING_LEFT)),
-    ("edit of one output", Call::Decode, Plain(DELETION_LEFT)),
-    ("edit of two log numbers", Call::Decode, Plain(TWO_LOGS)),
-    ("edit of a name", Call::Decode, Plain(EMPTY_SNAPSHOT)),
-    ("CURRENT", Call::Current, Plain(CURRENT_FIVE)),
-    ("manifest", Call::Manifest, Plain(MANIFEST)),
+    ("edit of no output", Decode, Plain(NOTHING_LEFT)),
+    ("edit of one output", Decode, Plain(DELETION_LEFT)),
+    ("edit of two log numbers", Decode, Plain(TWO_LOGS)),
+    ("edit of a name", Decode, Plain(EMPTY_SNAPSHOT)),
+    ("CURRENT", Current, Plain(CURRENT_FIVE)),
+    ("manifest", Manifest, Plain(MANIFEST)),
 ];
 
 /// An answer, and how many times in turn it came.

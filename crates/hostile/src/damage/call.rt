@@ -1,9 +1,10 @@
 //! The calls that take bytes, each seen as bytes in and an answer out.
 
-use crate::case::{Case, Want, compacted, picked};
+use crate::case::{Case, compacted, picked};
 use crate::cursors::first;
 use crate::fault::wanted;
-use crate::worked_bytes::{A_AT_ONE, CURRENT_FIVE, TABLE};
+use crate::requests::REQUEST;
+use crate::worked_bytes::{A_AT_ONE, CURRENT_FIVE};
 use coding::{Fault, FaultName};
 use edit::{Outcome, VersionEdit};
 use folder::open;
@@ -12,7 +13,7 @@ use logrec::records;
 use shelf::Shelf;
 use std::alloc::Global;
 use std::thread::Threads;
-use table::{Options, SoundTable, TableCursor};
+use table::{SoundTable, TableCursor};
 
 /// A call that takes bytes.
 #[derive(Clone, Copy)]
@@ -42,21 +43,8 @@ pub type Answer = Option<FaultName>;
 
 /// The compaction of one input of `a` at 1.
 const ONE_INPUT: Case = Case {
-    level: 1,
-    files: &[(7, 114, &A_AT_ONE, &A_AT_ONE)],
-    tables: &[TABLE],
-    grandparents: &[],
-    deeper: &[],
-    oldest: 9,
-    last_sequence: 9,
-    first_number: 9,
-    options: Options {
-        block_size: 4_096,
-        restart_interval: 16,
-        file_size: 2_097_152,
-    },
     workers: 1,
-    want: Want::Accepted,
+    ..REQUEST
 };
 
 /// The answer: None if the bytes were accepted.

@@ -3,6 +3,7 @@
 //! No theorem says how much memory a call asks for. So they are also made with memory for little
 //! more than the bytes: then a call that asks for what is claimed is refused as Memory.
 
+use crate::damage::call::Call::{Block, Compact, Decode, Manifest, Records, Table};
 use crate::damage::call::{Answer, Call, answer};
 use crate::damage::print_answer;
 use crate::damage::source::Source;
@@ -31,19 +32,19 @@ const OF_2_TO_30: &[u8] =
         \x8b\x24uG\xdb";
 
 /// The same, of 2^64 - 1 bytes.
-const OF_A_FAR_END: &[u8] =
+const FAR_END: &[u8] =
     b"\x0ba\x01\x01\0\0\0\0\0\0\0\xff\xff\xff\xff\xff\xff\xff\xff\xff\x01\0\0\0\0\x01\0\0\0\0\x29g\
         m\x7c\x1a\x08\x27\x1f\0\0\0\0\0\0\0\0\0\0\0\0\0\0\0\0\0\0\0\0\0\0\0\0\0\0\0\0\0\0\0\0\0\0\
         \0\0W\xfb\x80\x8b\x24uG\xdb";
 
 /// The same, at 2^64 - 1 too.
-const OF_A_FAR_PLACE: &[u8] =
+const FAR_PLACE: &[u8] =
     b"\x14a\x01\x01\0\0\0\0\0\0\xff\xff\xff\xff\xff\xff\xff\xff\xff\x01\xff\xff\xff\xff\xff\xff\
         \xff\xff\xff\x01\0\0\0\0\x01\0\0\0\0\xd7\x8b\xad\xc1\x1a\x08\x27\x28\0\0\0\0\0\0\0\0\0\0\0\
         \0\0\0\0\0\0\0\0\0\0\0\0\0\0\0\0\0\0\0\0\0\0\0\0\0W\xfb\x80\x8b\x24uG\xdb";
 
 /// The same, of eight bytes at 2^64 - 1.
-const PAST_2_TO_64: &[u8] =
+const PAST_END: &[u8] =
     b"\x0ba\x01\x01\0\0\0\0\0\0\xff\xff\xff\xff\xff\xff\xff\xff\xff\x01\x08\0\0\0\0\x01\0\0\0\0a\
         \x178\x0c\x1a\x08\x27\x1f\0\0\0\0\0\0\0\0\0\0\0\0\0\0\0\0\0\0\0\0\0\0\0\0\0\0\0\0\0\0\0\0\
         \0\0\0\0W\xfb\x80\x8b\x24uG\xdb";
@@ -52,115 +53,95 @@ const PAST_2_TO_64: &[u8] =
 const CLAIMS: &[(&str, Call, Source, usize)] = &[
     (
         "block with a value of 2^32 - 1 bytes",
-        Call::Block,
+        Block,
         Plain(b"\0\x01\xff\xff\xff\xff\x0fa\0\0\0\0\x01\0\0\0"),
         FOUR_BYTES,
     ),
     (
         "block with a key of 2^32 - 1 bytes",
-        Call::Block,
+        Block,
         Plain(b"\0\xff\xff\xff\xff\x0f\x01a\0\0\0\0\x01\0\0\0"),
         FOUR_BYTES,
     ),
     (
         "block with 2^32 - 1 shared bytes",
-        Call::Block,
+        Block,
         Plain(b"\0\x01\0a\xff\xff\xff\xff\x0f\x01\0b\0\0\0\0\x01\0\0\0"),
         FOUR_BYTES,
     ),
     (
         "block with 2^32 - 1 restarts",
-        Call::Block,
+        Block,
         Plain(b"\0\x01\0a\0\0\0\0\xff\xff\xff\xff"),
         FOUR_BYTES,
     ),
     (
         "log of 65535 bytes",
-        Call::Records,
+        Records,
         Plain(b"\x05\x2b\x28C\xff\xff\x01"),
         TWO_BYTES,
     ),
     (
         "manifest of 65535 bytes",
-        Call::Manifest,
+        Manifest,
         Plain(b"\x05\x2b\x28C\xff\xff\x01"),
         TWO_BYTES,
     ),
     (
         "edit with a name of 2^32 - 1 bytes",
-        Call::Decode,
+        Decode,
         Plain(b"\x01\xff\xff\xff\xff\x0fa"),
         FOUR_BYTES,
     ),
     (
         "edit with a key of 2^32 - 1 bytes",
-        Call::Decode,
+        Decode,
         Plain(b"\x05\0\xff\xff\xff\xff\x0fu\x01\x02\0\0\0\0\0\0"),
         FOUR_BYTES,
     ),
     (
         "edit with a smallest key of 2^32 - 1 bytes",
-        Call::Decode,
+        Decode,
         Plain(b"\x07\x01\x07\x7d\xff\xff\xff\xff\x0fu\x01\x02\0\0\0\0\0\0"),
         FOUR_BYTES,
     ),
     (
         "edit with a largest key of 2^32 - 1 bytes",
-        Call::Decode,
+        Decode,
         Plain(b"\x07\x01\x07\x7d\x09u\0\x04\0\0\0\0\0\0\xff\xff\xff\xff\x0fu\x01\x02\0\0\0\0\0\0"),
         FOUR_BYTES,
     ),
     (
         "handle of 2^30 bytes\n  of a footer's metaindex block",
-        Call::Table,
+        Table,
         Changed(66, b"\0\x80\x80\x80\x80\x04\x27\x16"),
         TABLE_LEN,
     ),
     (
         "  of a footer's index block",
-        Call::Table,
+        Table,
         Changed(68, b"\0\x80\x80\x80\x80\x04"),
         TABLE_LEN,
     ),
-    (
-        "  in an index",
-        Call::Table,
-        Ended(41, OF_2_TO_30),
-        TABLE_LEN,
-    ),
-    (
-        "  in an input",
-        Call::Compact,
-        Ended(41, OF_2_TO_30),
-        TABLE_LEN,
-    ),
+    ("  in an index", Table, Ended(41, OF_2_TO_30), TABLE_LEN),
+    ("  in an input", Compact, Ended(41, OF_2_TO_30), TABLE_LEN),
     (
         "handle of a far end\n  of a footer's metaindex block",
-        Call::Table,
+        Table,
         Changed(66, b"\0\xff\xff\xff\xff\xff\xff\xff\xff\xff\x01\x27\x16"),
         usize::MAX,
     ),
     (
         "  of a footer's index block",
-        Call::Table,
+        Table,
         Changed(68, b"\0\xff\xff\xff\xff\xff\xff\xff\xff\xff\x01"),
         usize::MAX,
     ),
-    (
-        "  in an index",
-        Call::Table,
-        Ended(41, OF_A_FAR_END),
-        usize::MAX,
-    ),
-    (
-        "  in an input",
-        Call::Compact,
-        Ended(41, OF_A_FAR_END),
-        usize::MAX,
-    ),
+    ("  in an index", Table, Ended(41, FAR_END), usize::MAX),
+    ("  in an input", Compact, Ended(41, FAR_END), usize::MAX),
     (
         "handle of a far place\n  of a footer's metaindex block",
-        Call::Table,
+        Table,
         Changed(
             66,
             b"\xff\xff\xff\xff\xff\xff\xff\xff\xff\x01\xff\xff\xff\xff\xff\xff\xff\xff\xff\x01\
@@ -170,52 +151,32 @@ const CLAIMS: &[(&str, Call, Source, usize)] = &[
     ),
     (
         "  of a footer's index block",
-        Call::Table,
+        Table,
         Changed(
             68,
             b"\xff\xff\xff\xff\xff\xff\xff\xff\xff\x01\xff\xff\xff\xff\xff\xff\xff\xff\xff\x01",
         ),
         usize::MAX,
     ),
-    (
-        "  in an index",
-        Call::Table,
-        Ended(41, OF_A_FAR_PLACE),
-        usize::MAX,
-    ),
-    (
-        "  in an input",
-        Call::Compact,
-        Ended(41, OF_A_FAR_PLACE),
-        usize::MAX,
-    ),
+    ("  in an index", Table, Ended(41, FAR_PLACE), usize::MAX),
+    ("  in an input", Compact, Ended(41, FAR_PLACE), usize::MAX),
     (
         "handle whose end passes 2^64\n  of a footer's metaindex block",
-        Call::Table,
+        Table,
         Changed(66, b"\xff\xff\xff\xff\xff\xff\xff\xff\xff\x01\x08\x27\x16"),
         usize::MAX,
     ),
     (
         "  of a footer's index block",
-        Call::Table,
+        Table,
         Changed(68, b"\xff\xff\xff\xff\xff\xff\xff\xff\xff\x01\x08"),
         usize::MAX,
     ),
-    (
-        "  in an index",
-        Call::Table,
-        Ended(41, PAST_2_TO_64),
-        usize::MAX,
-    ),
-    (
-        "  in an input",
-        Call::Compact,
-        Ended(41, PAST_2_TO_64),
-        usize::MAX,
-    ),
+    ("  in an index", Table, Ended(41, PAST_END), usize::MAX),
+    ("  in an input", Compact, Ended(41, PAST_END), usize::MAX),
     (
         "manifest with a name of 2^32 - 1 bytes",
-        Call::Manifest,
+        Manifest,
         Plain(b"\x04\xcd\x9b\x97\x07\0\x01\x01\xff\xff\xff\xff\x0fa"),
         FOUR_BYTES,
     ),

@@ -3,7 +3,8 @@ use Rattle.table.specs.BuilderView.{TableBuilding}
 use Rattle.table.specs.EncodedEntry.{Entry}
 use Rattle.c_api.specs.Outputs.{entry_at, is_entry}
 use Rattle.c_api.specs.declared.output_calls.Entry as host
-use Rattle.c_api.proofs.Tested.{lent_more, all_more, tested_more}
+use Rattle.c_api.proofs.CheckedInputs.{one_tested}
+use Rattle.c_api.proofs.Tested.{all_more, tested_more}
 use Rattle.c_api.proofs.output_calls.building.Goals as goal
 
 pub loop-entry-preserved : goal.loop-entry-preserved
@@ -22,7 +23,7 @@ loop-entry-preserved g c =
     let lt = c.loop-entry-test.true in
     record {
       options = ap (λ (t : TableBuilding). t.options) c.in_ok-add.ensures.added ∙ k.options;
-      lent = (lent_more F c.args.entries.now i d lt (is_entry keys values) k.lent).1;
+      lent = (one_tested (is_entry keys values) c.args.entries.now i d lt k.lent).1;
       all = all_more F c.args.entries.now i d lt c.loop-entry.table.entries c.add.new.table.entries x pushed own k.all;
       tested = tested_more F c.args.entries.now i d lt g.C.Comparator.cmp c.loop-entry.table.entries c.add.new.table.entries x pushed own c.in_ok-add.ensures.ok k.tested;
     }

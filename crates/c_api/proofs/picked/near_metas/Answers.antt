@@ -31,5 +31,5 @@ returns g c =
     let metas : List FileMeta = map (meta_at keys) l.files.now in
     subst (λ (ms : List FileMeta). EqualOrMemory (λ found. found.items) c.metas_of.result (Ok ms))
     (ap (metas_of keys c.args.level) (c.deref.ensures.value ∙ sym (ok_is (near_of cmp keys l.files.now l.lent.now.deeper.now) c.in_ok-near.near.items c.in_ok-near.ensures))
-    ∙ map_both (meta_at keys) (is_of c.args.level) (overlaps cmp metas) l.lent.now.deeper.now)
+    ∙ map_both (meta_at keys) (overlaps cmp metas) (is_of c.args.level) l.lent.now.deeper.now)
     c.metas_of.ensures

@@ -25,8 +25,8 @@ use Rattle.levels.specs.declared.selection.Selection.{Selection}
 use Rattle.levels.specs.declared.selection.Selection.TheVariants.{Whole}
 
 -- These outputs and this step are those of one thread's answers for what a selection takes of a
--- level of a version with the bytes of its tables: for the inputs that the rules pick; or for parts,
--- with their edits as one.
+-- level of a version with the bytes of its tables: for the inputs that the rules pick; or for
+-- parts, with their edits as one.
 abbrev pub IsAnswered : Selection → OrderView → LoadedVersion → ℕ → Settings →
     List (ℕ × List ℕ) → StepView → Type 0
 IsAnswered selection by v level s outputs step =

@@ -1,15 +1,16 @@
 //! The ranges of user keys that files fill together, in their order.
 //!
 //! The range of a file is widened by each file that overlaps it, until no file widens it. Files in
-//! the order of their smallest user keys are widened in one walk: a file that begins behind the
-//! range so far begins the next one. So all ranges take the time of one sort.
+//! the order of their smallest user keys are widened in one walk: a file that begins after the range
+//! so far begins the next one. So all ranges take the time of one sort.
 
 ghost use Rattle.std.specs.Prelude.{◌≡◌, ◌++◌, true, Ok, IfOk, IfErr, map, filter};
 ghost use Rattle.edit.specs.Answers.{EqualOrMemory, fault};
 ghost use Rattle.edit.specs.Key.{user_of};
 ghost use Rattle.edit.specs.fault.FaultName.TheVariants.{Memory};
 ghost use Rattle.pick.specs.Choices.{is_in};
-ghost use Rattle.pick.specs.FileRanges.{AreByStart, AreFileRanges, ending_from as files_ending_from};
+ghost use Rattle.pick.specs.FileRanges.{AreByStart, AreFileRanges};
+ghost use Rattle.pick.specs.FileRanges.{ending_from as files_ending_from};
 ghost use Rattle.pick.specs.Parts.{have_ranges};
 
 use crate::range::UserRange;

@@ -138,8 +138,7 @@ fn files_to_last<C: Comparator>(
     version.files::<C>(alloc, level)
 }
 
-/// The files of a level, of the next one and of that after it that a range or those behind it can
-/// overlap.
+/// The files of a level and of the next two that a range, or a later one, can overlap.
 #[derive(Clone, Copy)]
 struct Ahead<'s> {
     upper: &'s [&'s FileMeta],
